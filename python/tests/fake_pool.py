@@ -2,29 +2,17 @@
 
 import asyncio
 import pytest
-from collections import deque
-from collections.abc import Container, Coroutine
+from collections.abc import Coroutine
 from typing import Any, TypeVar, cast
 
-from olr.asking.processes import Kind
 from olr.errors import MapRefused, ProgramEnded, ToolError
 from olr.serving.edition import Edition
-from olr.serving.limits import Capacity, Limits
+from olr.serving.limits import Limits
 from olr.serving.pool import Pool
-from olr.serving.process import Answer, Owner, Request
-from olr.serving.queries import kind_of
+from olr.serving.process import Answer, Owner, Process
 from olr.serving.waiting import CLIENT
 
 Made = TypeVar("Made")
-MATCH = kind_of("match", {}, 10_000)
-KINDS = [kind_of("match", {"radius": str(40 + number)}, 10_000) for number in range(5)]
-
-
-class Every:
-    """All kinds: each of them may have all turns."""
-
-    def __contains__(self, _: object) -> bool:
-        return True
 
 
 class FakeClock:
@@ -37,66 +25,43 @@ class FakeClock:
         return self.now
 
 
-class FakeProcess:
+class FakeProcess(Process):
     """A process that reads the map, answers and ends when a test says so."""
 
-    def __init__(self, kind: Kind, edition: Edition, owner: Owner) -> None:
-        self.kind, self.edition, self.owner = kind, edition, owner
-        self.requests: deque[Request] = deque()
+    def __init__(self, edition: Edition, owner: Owner) -> None:
+        super().__init__(edition, owner)
         self.texts: list[bytes] = []
         """Of all requests that it was asked."""
-        self.is_ready = self.is_retiring = False
-        self.working_since = self.ready_since = self.busy_since = 0.0
-        self.client = ""
-        self.since = owner.clock()
-        """Since when it reads the map."""
-        self._reading: asyncio.Future[None] = asyncio.get_running_loop().create_future()
 
-    async def start(self) -> None:
-        """Waits until the map is read, or it ends."""
-        await self._reading
-        self.is_ready = True
-        self.ready_since = self.working_since = self.owner.clock()
-        self.owner.became_free(self)  # type: ignore[arg-type]
+    async def _start(self) -> None:
+        await self._map_is_read
 
-    def read(self) -> None:
+    def _write(self, text: bytes) -> None:
+        self.texts.append(text)
+
+    async def read(self) -> None:
         """Lets it have read the map."""
-        if not self._reading.done():
-            self._reading.set_result(None)
+        self._map_is_read.set_result(None)
+        await turns()
 
-    def ask(self, request: Request) -> None:
-        """Hands over a request."""
-        if not self.requests:
-            self.working_since = self.busy_since = self.owner.clock()
-        self.requests.append(request)
-        self.client = request.client
-        self.texts.append(request.text)
-
-    def answer(self) -> None:
-        """Lets it answer the first request, with its text."""
-        request = self.requests.popleft()
-        request.give(Answer(request.text, None, self.edition))
-        self.working_since = self.owner.clock()
-        self.owner.became_free(self)  # type: ignore[arg-type]
+    def answer(self, count: int = 1) -> None:
+        """Lets it answer so many requests, each with its text."""
+        for _ in range(count):
+            request = self.requests.popleft()
+            request.give(Answer(request.text, None, self.edition))
+            self.working_since = self._owner.clock()
+            self._owner.became_free(self)
 
     def fail(self, error: ToolError) -> None:
         """Lets it end for an error."""
         self.is_retiring = True
-        if not self._reading.done():
-            self._reading.set_exception(error)
-            self._reading.exception()
-        self.owner.has_ended(self, error)  # type: ignore[arg-type]
-
-    def end(self) -> None:
-        """Lets it end, since it isn't needed."""
-        self.fail(ProgramEnded("it isn't needed"))
-
-    async def ended(self) -> None:
-        """It has ended."""
+        self._finish(error)
 
 
 class FakeEdition:
     """The files of a map, which are refused while there is a reason."""
+
+    program = None
 
     def __init__(self) -> None:
         self.refused: MapRefused | None = None
@@ -110,51 +75,57 @@ class FakeEdition:
 class FakePool:
     """A pool, its clock, its files, and all processes that it started."""
 
-    def __init__(
-        self,
-        monkeypatch: pytest.MonkeyPatch,
-        workers: int,
-        seconds: float = 30,
-        processes: int | None = None,
-        defaults: Container[Kind] = Every(),
-    ) -> None:
+    def __init__(self, monkeypatch: pytest.MonkeyPatch, workers: int, seconds: float = 30) -> None:
         self.clock, self.edition = FakeClock(), FakeEdition()
         self.started: list[FakeProcess] = []
 
-        def made(kind: Kind, edition: Edition, owner: Owner) -> FakeProcess:
-            self.started.append(FakeProcess(kind, edition, owner))
+        def made(edition: Edition, owner: Owner) -> FakeProcess:
+            self.started.append(FakeProcess(edition, owner))
             return self.started[-1]
 
         monkeypatch.setattr("olr.serving.pool.Process", made)
-        edition = cast(Edition, self.edition)
-        capacity = Capacity(workers, processes or workers)
-        self.pool = Pool(edition, capacity, Limits(time=seconds), self.clock, defaults)
+        limits = Limits(time=seconds)
+        self.pool = Pool(cast(Edition, self.edition), workers, limits, self.clock)
 
     def there(self) -> list[FakeProcess]:
         """The processes that haven't ended."""
-        return [one for one in self.started if not one.is_retiring or one.requests]
+        return [one for one in self.started if one in self.pool._there]
 
-    async def ready(self, kind: Kind = MATCH) -> FakeProcess:
-        """The first process, which has read the map."""
-        opening = asyncio.create_task(self.pool.open(kind))
+    async def ready(self, count: int = 1) -> list[FakeProcess]:
+        """So many processes, which have read the map."""
+        opening = asyncio.create_task(self.pool.open())
         await turns()
-        self.started[0].read()
+        await self.started[0].read()
         await opening
-        return self.started[0]
+        while len(self.started) < count:
+            starting = asyncio.create_task(self.pool._start(self.pool._new()))
+            await turns()
+            await self.started[-1].read()
+            await starting
+        return self.started
 
-    def asked(
-        self, text: str, kind: Kind = MATCH, is_gone: bool = False, client: str = ""
-    ) -> "asyncio.Task[bytes]":
-        """What the pool answers to a text, once it does; nobody waits for it if the client is gone."""
+    def asked(self, text: str, client: str = "", **options: bool) -> "asyncio.Task[bytes]":
+        """What the pool answers to a text, once it does."""
 
         async def ask() -> bytes:
             CLIENT.set(client)
-            return (await self.pool.answer(kind, text.encode(), lambda: is_gone)).json
+            return (await self.pool.ask(text.encode(), **options)).json
 
         return asyncio.create_task(ask())
 
+    async def after(self, seconds: float) -> None:
+        """Lets seconds pass, and the pool look."""
+        self.clock.now += seconds
+        self.pool.look()
+        await turns()
 
-async def turns(count: int = 5) -> None:
+    async def close(self, *asked: "asyncio.Task[bytes]") -> None:
+        """Closes the pool, and hears what is left of what was asked."""
+        await self.pool.close()
+        await asyncio.gather(*asked, return_exceptions=True)
+
+
+async def turns(count: int = 8) -> None:
     """Lets all tasks go on that can."""
     for _ in range(count):
         await asyncio.sleep(0)
@@ -163,3 +134,8 @@ async def turns(count: int = 5) -> None:
 def run_within(work: Coroutine[Any, Any, Made], seconds: float = 600) -> Made:
     """Runs something that may take so long at most: what never comes fails, and doesn't hang."""
     return asyncio.run(asyncio.wait_for(work, seconds))
+
+
+def ended(text: str = "it ended") -> ProgramEnded:
+    """The error of a process that ended."""
+    return ProgramEnded(text)

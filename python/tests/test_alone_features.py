@@ -23,7 +23,7 @@ from olr.model.reference import read_reference
 from olr.serving.chosen import chosen_by
 from olr.serving.feature_texts import lines_of
 from olr.serving.judging import listing_of
-from olr.serving.queries import Options, kind_of
+from olr.serving.queries import Options, asked_of
 from olr.serving.tasks import JudgedBy
 
 COUNT = 60
@@ -58,7 +58,7 @@ def ask(
     program: Program, folder: Path, texts: Sequence[str], what: What, options: Options
 ) -> Asked:
     """Asks the program about references on a map, with the options of an address."""
-    kind = kind_of(what, options, LOOK)
+    kind = asked_of(what, options, LOOK)
     asked = listing_of(kind) if what == "places" else kind
     list_of = folder / "list.tsv"
     list_of.write_text("".join(f'k{n} "é"\t{text}\n' for n, text in enumerate(texts)))
@@ -206,7 +206,7 @@ def test_matchings(
 def test_an_answer_that_is_too_large(scripts: Browser) -> None:
     """Of such a one no lines are made."""
     network = Network.read(TOP / "examples")
-    judged_by = JudgedBy(kind_of("places", {}, LOOK), None)
+    judged_by = JudgedBy(asked_of("places", {}, LOOK), None)
     for size in ((1 << 20) - 60, (1 << 20) + 1):
         filled = '{"looked":0,"margin":null,"next":null,"places":[],"verdict":"none"}'
         answer = filled[:-1] + " " * (size - len(filled)) + "}"

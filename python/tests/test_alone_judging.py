@@ -15,7 +15,7 @@ from asking import draw_references
 from browser import Browser
 from confidences import write_confidence
 from conftest import Program
-from olr.asking.processes import Kind
+from olr.asking import exchange
 from olr.asking.records import Answered, Record
 from olr.confidence.choosing import judging_by
 from olr.confidence.confidence import DEFAULT, Confidence
@@ -58,7 +58,7 @@ KEY = '"\x01\x7f\\ é'
 class Asked(NamedTuple):
     """What the program answered to records that were asked with some numbers."""
 
-    kind: Kind
+    kind: exchange.Asked
     lines: list[str]
     """Those of `olr batch`, without their ends."""
     some: list[Answered]
@@ -137,7 +137,7 @@ def asked_with(
         )
         for one in raw
     ]
-    return Asked(Kind("places", tuple(all_words(numbers))), lines, some)
+    return Asked(exchange.Asked("places", tuple(all_words(numbers))), lines, some)
 
 
 @pytest.fixture(scope="module", params=["feed", "program", "few", "apart"])

@@ -2,9 +2,7 @@
 
 import base64
 import json
-import os
 import pytest
-from collections.abc import Sequence
 from pathlib import Path
 from typing import Any
 
@@ -16,7 +14,6 @@ from olr.model.map_folder import BANS, LINES, NODES
 from olr.pages.alone.module import find_module
 
 EXAMPLES = TOP / "examples"
-FAULT_OF_OTHER_FILES = "OpenFailed nodes"
 SETUP = """
 const bytesOf = (text) => Uint8Array.from(atob(text), (one) => one.charCodeAt(0));
 const filesOf = (texts) => Object.fromEntries(Object.entries(texts).map(([name, text]) => [name, bytesOf(text)]));
@@ -28,7 +25,7 @@ globalThis.memories = [];
 const takenOf = WebAssembly.instantiate;
 WebAssembly.instantiate = async (...given) => { const made = await takenOf(...given); memories.push(made.exports.memory); return made; };
 globalThis.memory = () => memories.at(-1).buffer.byteLength;
-globalThis.said = ({ status, output = [], errors }) => [status, ...[output, errors].map((bytes) => new TextDecoder().decode(new Uint8Array(bytes)))];
+globalThis.said = ({ status, errors }) => [status, new TextDecoder().decode(errors)];
 """
 
 
@@ -65,11 +62,10 @@ class Page:
         found: list[Any] = self.value(f"said(olr.open(mapFilesOf({json.dumps(texts_of(folder))})))")
         return found
 
-    def ask(self, *words: str, given: str = "") -> list[Any]:
-        """Asks the module, with a standard input: the status and the texts."""
-        found: list[Any] = self.value(
-            f"said(olr.ask({json.dumps(words)}, new TextEncoder().encode({json.dumps(given)})))"
-        )
+    def lines(self, records: str) -> str:
+        """The lines of the module for records."""
+        asked = f"olr.answer(new TextEncoder().encode({json.dumps(records)}))"
+        found: str = self.value(f"new TextDecoder().decode({asked})")
         return found
 
     def answer(self, what: str, reference: str = REFERENCE) -> dict[str, str | None]:
@@ -99,10 +95,11 @@ def other(tmp_path_factory: pytest.TempPathFactory) -> Path:
     return draw_map(tmp_path_factory.mktemp("other") / "drawn", 200, 400)
 
 
-def printed(program: Program, folder: Path, words: Sequence[str]) -> list[Any]:
-    """What the program prints about the map of a folder, named `map` beside it."""
-    ended = program.run(*words, "--map", os.fspath(folder))
-    return [ended.returncode, ended.stdout, ended.stderr]
+def printed(program: Program, folder: Path, records: Path) -> str:
+    """The lines of the program for the records of a file, on the map of a folder."""
+    ended = program.run("answer", "--map", folder, "--input", records)
+    assert (ended.returncode, ended.stderr) == (0, "")
+    return ended.stdout
 
 
 def test_the_map_is_read_once(page: Page) -> None:
@@ -137,65 +134,44 @@ def test_a_map_is_closed(page: Page, other: Path) -> None:
     )
 
 
-def test_a_map_takes_the_place_of_the_one_before(page: Page, program: Program, other: Path) -> None:
+@pytest.fixture(scope="module")
+def records(tmp_path_factory: pytest.TempPathFactory) -> Path:
+    """Records of each question, of words that aren't understood and of a text that is no reference."""
+    texts = [f"{what} -- {REFERENCE}" for what in ("show", "candidates", "match", "places", "why")]
+    others = [
+        "",
+        f"match --all -- {REFERENCE}",
+        "match --help",
+        "why -- x",
+        "k\tmatch --page 0 -- x",
+    ]
+    file = tmp_path_factory.mktemp("records") / "records"
+    file.write_text("".join(f"{text}\n" for text in [*texts, *others]))
+    return file
+
+
+def test_a_map_takes_the_place_of_the_one_before(
+    page: Page, program: Program, other: Path, records: Path
+) -> None:
     page.begin_without_map()
-    words = ["candidates", REFERENCE]
     answers = []
     for folder in (EXAMPLES, other, EXAMPLES):
-        assert page.open(folder) == [0, "", ""]
-        answers.append(page.ask(*words, "--map", "map"))
-        assert answers[-1] == printed(program, folder, words)
+        assert page.open(folder) == [0, ""]
+        answers.append(page.lines(records.read_text()))
+        assert answers[-1] == printed(program, folder, records)
     assert answers[0] == answers[2] != answers[1]
 
 
-def test_without_a_map(page: Page, program: Program) -> None:
-    """Before the first map, and behind a map that was closed: no files are there, and what needs none is answered."""
+def test_without_a_map(page: Page, program: Program, records: Path, tmp_path: Path) -> None:
+    """Before the first map, and behind a map that was closed, a map without lines is asked."""
+    (tmp_path / NODES).write_text("id,lon,lat\n")
+    (tmp_path / LINES).write_text("id,from,to,class,form,length,shape\n")
     page.begin_without_map()
-    shown = program.run("show", REFERENCE)
     for _ in range(2):
-        assert page.ask("candidates", REFERENCE, "--map", "map") == [
-            1,
-            "",
-            f"olr: {FAULT_OF_OTHER_FILES}\n",
-        ]
-        assert page.ask("show", REFERENCE) == [0, shown.stdout, ""]
-        assert (
-            page.open(EXAMPLES)[0] == 0
-            and page.ask("candidates", REFERENCE, "--map", "map")[0] == 0
-        )
+        assert page.lines(records.read_text()) == printed(program, tmp_path, records)
+        assert page.open(EXAMPLES) == [0, ""]
+        assert page.lines(records.read_text()) == printed(program, EXAMPLES, records)
         page.value("olr.close(), null")
-
-
-def test_other_files_are_not_there(page: Page, program: Program, tmp_path: Path) -> None:
-    """Words that name other files than those of the map get the fault of the program where they aren't there."""
-    page.begin_without_map()
-    page.open(EXAMPLES)
-    folders = [
-        ["--map", "other"],
-        ["--map", "map/"],
-        ["--nodes", "map/nodes.csv", "--lines", "map/lines.csv"],
-    ]
-    for words in folders:
-        for asked in (["why", REFERENCE, *words], ["batch", "why", *words]):
-            assert page.ask(*asked) == [1, "", f"olr: {FAULT_OF_OTHER_FILES}\n"]
-    missing = ["batch", "match", "--input", "records.tsv"]
-    expected = [1, "", program.run(*missing[:3], tmp_path / "none", "--map", EXAMPLES).stderr]
-    assert page.ask(*missing, "--map", "map") == expected
-
-
-def test_words_that_ask_for_help_or_are_not_understood(page: Page, program: Program) -> None:
-    page.begin_without_map()
-    for folder in (None, EXAMPLES):
-        if folder:
-            page.open(folder)
-        for words in (
-            ["--help"],
-            ["--version"],
-            ["match"],
-            ["match", REFERENCE, "--all", "--after", "1@1", "--map", "map"],
-        ):
-            ended = program.run(*words)
-            assert page.ask(*words) == [ended.returncode, ended.stdout, ended.stderr]
 
 
 def test_a_map_that_is_refused(page: Page, program: Program, tmp_path: Path) -> None:
@@ -213,20 +189,25 @@ def test_a_map_that_is_refused(page: Page, program: Program, tmp_path: Path) -> 
     assert page.value(f"program.show({json.dumps(REFERENCE)}).fault") is None
     page.begin_without_map()
     page.open(EXAMPLES)
-    assert page.open(tmp_path) == [1, "", f"olr: {fault}\n"]
-    assert page.ask("candidates", REFERENCE, "--map", "map") == [
-        1,
-        "",
-        f"olr: {FAULT_OF_OTHER_FILES}\n",
-    ]
+    assert page.open(tmp_path) == [1, f"olr: {fault}\n"]
+    assert '{"points":[[],[],[]]}' in page.lines(f"candidates -- {REFERENCE}\n")
 
 
 def test_a_long_output_is_whole(page: Page, program: Program, tmp_path: Path) -> None:
     """An output with more bytes than the first room for one."""
     page.begin_without_map()
     page.open(EXAMPLES)
-    (tmp_path / "records").write_text(f"{REFERENCE}\n" * 40)
-    words = ["batch", "match", "--page", "1000", "--radius", "1000", "--bearing", "16"]
-    expected = printed(program, EXAMPLES, [*words, "--input", os.fspath(tmp_path / "records")])
-    assert len(expected[1]) > 1 << 20
-    assert page.ask(*words, "--map", "map", given=(tmp_path / "records").read_text()) == expected
+    words = "match --page 1000 --radius 1000 --bearing 16"
+    (tmp_path / "records").write_text(f"{words} -- {REFERENCE}\n" * 40)
+    expected = printed(program, EXAMPLES, tmp_path / "records")
+    assert len(expected) > 1 << 20
+    assert page.lines((tmp_path / "records").read_text()) == expected
+
+
+def test_a_cursor_with_blanks(page: Page) -> None:
+    """It is no cursor, and its blanks end no word."""
+    page.begin(EXAMPLES)
+    found = page.value(
+        f"program.answer('match', {{}}, {json.dumps(REFERENCE)}, '8:1.1.1 --page 1')"
+    )
+    assert found == {"text": None, "fault": "BadCursor"}

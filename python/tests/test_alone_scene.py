@@ -29,7 +29,7 @@ from olr.serving import scene_texts
 from olr.serving.chosen import chosen_by
 from olr.serving.ground import FolderGround
 from olr.serving.judging import listing_of
-from olr.serving.queries import kind_of
+from olr.serving.queries import asked_of
 from olr.serving.tasks import JudgedBy, SceneTask
 from region_maps import EAST, WEST, Point, hostile_map, hostile_text, text_of
 from test_near_paths import Block, block
@@ -74,7 +74,7 @@ class MapAsked(NamedTuple):
         """What the program answers about references, asked as by the server."""
         names = {"profile", *tables()["tolerances"], *NUMBERS[what]}
         own = {name: value for name, value in options.items() if name in names}
-        kind = kind_of(what, own, 1_000_000)
+        kind = asked_of(what, own, 1_000_000)
         words = (listing_of(kind) if what == "places" else kind).words
         records = self.folder / "records.tsv"
         records.write_text("".join(f"{text}\n" for text in texts))
@@ -116,7 +116,7 @@ class MapAsked(NamedTuple):
         read = {
             what: one.answer if one.fault is None else Fault(one.fault) for what, one in raw.items()
         }
-        judged_by = JudgedBy(kind_of("places", options, 1_000_000), confidence)
+        judged_by = JudgedBy(asked_of("places", options, 1_000_000), confidence)
         answers = (text, said, read["candidates"], read["places"], read["match"])
         task = SceneTask(judged_by, *answers, read["why"], True, map_name, None)
         answered = scene_texts._answered(task, self.ground.network.digest)
@@ -134,7 +134,7 @@ class MapAsked(NamedTuple):
             "judgement": None if judgement is None else of_judgement(judgement),
             "confidence": of_confidence(chosen.judging.confidence),
             "note": chosen.note,
-            "numbers": judged_by.kind.numbers(),
+            "numbers": judged_by.asked.numbers(),
             "mapName": map_name,
         }
         scene = json.loads(scene_texts.text_of(task, self.ground))

@@ -110,10 +110,6 @@ def test_answers_in_one_line(plain_town: olr.Map) -> None:
     }
     for text, answer in texts.items():
         assert repr(answer) == text
-    # The cursor of a page behind another one ends with a mark of 64 digits.
-    marked = plain_town.match(BREAKDOWN, page=1, after=plain_town.match(BREAKDOWN, page=1).next)
-    assert marked.next and len(marked.next) > 64
-    assert repr(marked) == "<Page: 1 matching, total 14, more behind 14:2.1>"
 
 
 # ---- pictures

@@ -5,13 +5,10 @@ import pytest
 import shutil
 import subprocess
 from collections.abc import Callable
-from concurrent.futures import ThreadPoolExecutor
 from pathlib import Path
 
 from conftest import TOP
 from olr.asking import program as finding
-from olr.asking.blocking import lines_about
-from olr.asking.exchange import Asked
 from olr.asking.files import MapFiles
 from olr.asking.once import read_once
 from olr.asking.patience import require_patience
@@ -22,8 +19,6 @@ from olr.model.fault import Fault
 from release.machines import MACHINES, Machine
 from servers import is_running, wait_until
 from stores import folder_of
-
-LINE = '{{"answer":{answer},"fault":null,"key":"1","record":1}}'
 
 
 @pytest.mark.parametrize("seconds", [None, 1, 0.001, 1_000_000])
@@ -40,6 +35,7 @@ def test_a_patience(seconds: float | None) -> None:
         (float("nan"), ValueError),
         (True, TypeError),
         ("5", TypeError),
+        (float("inf"), ValueError),
     ],
 )
 def test_no_patience(seconds: float, error: type[Exception]) -> None:
@@ -58,46 +54,6 @@ def program_that(tmp_path: Path) -> Callable[[str], Path]:
         return file
 
     return write
-
-
-@pytest.mark.parametrize(
-    "lines, said",
-    [
-        (f"echo '{LINE.format(answer='{}')}'", None),
-        (f"echo '{LINE.format(answer='{,}')}'", "it isn't JSON"),
-        (f"echo '{LINE.format(answer='[]')}'", "it isn't JSON"),
-        (f"echo '{LINE.format(answer='{}')}'; echo oh >&2", "ended after 1 lines: oh"),
-        (f"echo '{LINE.format(answer='{}')}'; exit 3", "ended with status 3 after 1 lines"),
-        (f"echo '{LINE.format(answer='{}')}'; kill -9 $$", "was ended by signal 9 after 1 lines"),
-        ("exit 0", "ended with status 0 after 0 lines"),
-        ("echo setpriv: oh: no >&2; exit 1", "can't be started: no"),
-    ],
-)
-def test_what_a_program_wrote(
-    lines: str, said: str | None, program_that: Callable[[str], Path], tmp_path: Path
-) -> None:
-    """It is an answer if all of it is right, and the program ended well without a word."""
-    program = program_that(lines)
-    files = MapFiles.of_folder(folder_of(tmp_path / "map"))
-    found = lines_about(Asked(program, "match", []), files, [b"x"], 20, tmp_path)
-    if said is None:
-        assert [line.answer for line in found] == [b"{}"]
-    else:
-        with pytest.raises((ProgramEnded, ProgramNotFound), match=said):
-            list(found)
-
-
-def test_another_thread_closes_what_is_read(
-    program_that: Callable[[str], Path], tmp_path: Path
-) -> None:
-    """As the garbage collector may: the process ends."""
-    program = program_that(f"echo $$ > {tmp_path}/pid; echo '{LINE.format(answer='{}')}'; sleep 60")
-    files = MapFiles.of_folder(folder_of(tmp_path / "map"))
-    lines = lines_about(Asked(program, "match", []), files, [b"x"], 20, tmp_path)
-    assert next(lines).answer == b"{}"
-    with ThreadPoolExecutor(1) as other:
-        other.submit(lines.close).result()
-    assert not is_running(int((tmp_path / "pid").read_text()))
 
 
 @pytest.mark.parametrize(
@@ -142,7 +98,7 @@ def test_which_program(tmp_path: Path, monkeypatch: pytest.MonkeyPatch) -> None:
     for name in ("own", "released", "built", "path"):
         assert find_program() == places[name]
         places[name].unlink()
-    with pytest.raises(ProgramNotFound, match="there is no program olr"):
+    with pytest.raises(ProgramNotFound, match="no program olr: install its package, build it"):
         find_program()
     for given in (places["path"], tmp_path):
         with pytest.raises(ProgramNotFound, match="there is no program .*: name the program"):

@@ -12,8 +12,7 @@ import olr
 from asking import as_json, batch_of, draw_map, draw_references, said
 from conftest import REFERENCE, TOP, Program, by_default
 from olr.asking.processes import AHEAD
-from olr.asking.program import find_program
-from olr.asking.starting import PIPE_BYTES
+from olr.asking.threaded import PIECE_BYTES
 from olr.model.questions import NUMBERS, TOLERANCES, What
 
 DATA = TOP / "crates/olr_conformance/data"
@@ -197,7 +196,7 @@ def test_names_of_the_answers(top: Path, program: Program) -> None:
 
 
 def test_more_than_the_pipes_hold(top: Path, program: Program) -> None:
-    texts = [f"{number:0300d}" for number in range(PIPE_BYTES // 300)] + [ROADWORKS] * AHEAD * 2
+    texts = [f"{number:0300d}" for number in range(PIECE_BYTES // 300)] + [ROADWORKS] * AHEAD * 2
     with olr.Map.of_folder(top / "examples", program=program.path) as town:
         answers = town.answers("why", texts, nearest=64)
         assert sum(isinstance(answer, olr.Fault) for answer in answers) == len(texts) - AHEAD * 2
@@ -218,30 +217,3 @@ def test_the_environment_names_the_program(
     monkeypatch.setenv("OLR_PROGRAM", os.fspath(tmp_path / "none"))
     with pytest.raises(olr.ProgramNotFound, match="that is what OLR_PROGRAM names"):
         olr.decode(REFERENCE)
-
-
-def test_where_the_program_is_looked_for(
-    monkeypatch: pytest.MonkeyPatch, program: Program, tmp_path: Path
-) -> None:
-    own, built, released = (tmp_path / name / "olr" for name in ("own", "built", "released"))
-    monkeypatch.delenv("OLR_PROGRAM", raising=False)
-    monkeypatch.setenv("PATH", f"{tmp_path}:/usr/bin:/bin")
-    monkeypatch.setattr("olr.asking.program.OWN", own)
-    monkeypatch.setattr("olr.asking.program.OF_REPOSITORY", (built, released))
-    with pytest.raises(olr.ProgramNotFound, match="no program olr: install its package, build it"):
-        olr.decode(REFERENCE)
-    (tmp_path / "olr").write_text(f'#!/bin/sh\nexec {program.path} "$@"\n')
-    (tmp_path / "olr").chmod(0o755)
-    assert find_program() == tmp_path / "olr"
-    assert olr.decode(REFERENCE).kind == "line"
-    for path, seconds in ((built, 3000), (released, 2000)):
-        path.parent.mkdir()
-        path.touch()
-        os.utime(path, (seconds, seconds))
-        assert find_program() == built
-    os.utime(released, (4000, 4000))
-    assert find_program() == released
-    own.parent.mkdir()
-    own.touch()
-    assert find_program() == own
-    assert find_program(built) == built

@@ -14,6 +14,8 @@ from typing import Any
 import olr
 from asking import as_json, said
 from conftest import REFERENCE, TOP, Program
+from olr.asking.processes import Processes
+from olr.asking.threaded import Process
 from olr.content import Content, digest_of
 from olr.model.profiles import DEFAULT_PROFILE, tolerances_of
 from olr.model.questions import NUMBERS, TOLERANCES, Number
@@ -53,8 +55,12 @@ def test_pages(program: Program) -> None:
         first = town.match(BREAKDOWN, page=1)
         assert first.next is not None
         words = ["match", "--map", EXAMPLES, "--format", "json", "--page", 2, "--after", first.next]
+        expected = said(program, *words, BREAKDOWN)
         second = town.match(f" {BREAKDOWN}\n", page=2, after=first.next)
-        assert as_json(second) == said(program, *words, BREAKDOWN)
+        assert as_json(second) == expected | {"next": expected["next"].partition("@")[0]}
+        assert town.match(BREAKDOWN, page=2, after=expected["next"]).matchings == (
+            every.matchings[3:]
+        )
         assert town.match(BREAKDOWN, page=2, after=second.next).matchings == every.matchings[3:]
         assert list(town.pages(UNMATCHED)) == [olr.Page((), None)]
         assert next(town.pages(BREAKDOWN)) == town.match(BREAKDOWN)
@@ -208,6 +214,30 @@ def test_defaults() -> None:
         assert parameters.keys() - own.keys() <= {"self", "ref", "after"}
 
 
+def processes_of(town: olr.Map) -> list[Process]:
+    """The processes that answer."""
+    assert isinstance(town._source, Processes)
+    return town._source._there
+
+
+def test_other_tolerances(program: Program) -> None:
+    """A map with others is asked by the same process, each with its own."""
+    with olr.Map.of_folder(EXAMPLES, program=program.path, profile="program") as town:
+        other = town.asking(profile="program", lowest=2)
+        for one, two in zip(town.matches([UNMATCHED] * 300), other.matches([UNMATCHED] * 300)):
+            assert isinstance(one, olr.Page) and isinstance(two, olr.Page)
+            assert (len(one.matchings), len(two.matchings)) == (0, 1)
+        assert (other.asked_with, other.tolerances["lowest"]) == (
+            {"profile": "program", "lowest": 2},
+            2,
+        )
+        assert len(processes_of(town)) == 1
+        with pytest.raises(olr.Fault, match="BadTolerance lowest"):
+            town.asking(lowest=8)
+    with pytest.raises(olr.ToolError, match="closed"):
+        other.match(UNMATCHED)
+
+
 def test_a_map_that_changes(folder: Path, program: Program) -> None:
     """Neither answers nor geometries are of another version than the first answer."""
     lines = (folder / "lines.csv").read_text()
@@ -216,11 +246,9 @@ def test_a_map_that_changes(folder: Path, program: Program) -> None:
         first, kiosk = next(pages), town.match(KIOSK, page=1)
         (folder / "lines.csv").write_text(lines.replace("7418773 49871296", "7418773 49871297"))
         other = olr.Network.read(folder)
-        assert town.match(BREAKDOWN, page=1) == first
-        calls: list[Call] = [town.network, lambda: town.why(KIOSK), lambda: next(pages)]
-        for call in calls:
-            with pytest.raises(olr.MapRefused, match="have changed since they were read"):
-                call()
+        assert town.match(BREAKDOWN, page=1) == first and next(pages) != first
+        with pytest.raises(olr.MapRefused, match="have changed since they were read"):
+            town.network()
         refused = "another version than the answer is of: take the network of the Map"
         with pytest.raises(olr.MapRefused, match=refused):
             other.geometry(first.matchings[0].route)
@@ -233,6 +261,8 @@ def test_a_map_that_changes(folder: Path, program: Program) -> None:
         for same in (network, olr.Network.read(EXAMPLES)):
             assert len(olr.to_geodataframe([first, kiosk], same)) == 2
         (folder / "bans.csv").write_text("from,to\n")
+        assert town.candidates(KIOSK)
+        processes_of(town)[0].fail(olr.ProgramEnded("no more"))
         with pytest.raises(olr.MapRefused, match="have changed"):
             town.candidates(KIOSK)
     with olr.Map.of_folder(folder, program=program.path) as again:
@@ -245,11 +275,8 @@ def test_a_map_that_changes_while_it_is_read(folder: Path, program: Program) -> 
     script.write_text(f'#!/bin/sh\n{change}\nexec {program.path} "$@"\n')
     script.chmod(0o755)
     with olr.Map.of_folder(folder, program=script, profile="program") as town:
-        calls: list[Call] = [lambda: town.match(KIOSK), lambda: town.match(KIOSK, after="0:1.1")]
-        for call in calls:
-            shutil.copy(EXAMPLES / "lines.csv", folder)
-            with pytest.raises(olr.MapRefused, match="have changed since they were read"):
-                call()
+        with pytest.raises(olr.MapRefused, match="have changed since they were read"):
+            town.match(KIOSK)
         assert town.match(KIOSK).matchings
 
 

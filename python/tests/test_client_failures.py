@@ -9,20 +9,22 @@ import subprocess
 import sys
 import threading
 import time
-from collections.abc import Iterator
-from concurrent.futures import Future
+from collections.abc import Callable, Iterator
 from pathlib import Path
-from typing import Any, NoReturn
+from typing import Any
 
 import olr
 from asking import as_json
 from conftest import REFERENCE, TOP, Program
 from olr.asking.processes import AHEAD
+from olr.asking.starting import start
 from olr.errors import ToolError
 from olr.model.fault_table import ROWS
 from servers import is_running, wait_until
 
 ROADWORKS = "CwVGnSN2zhvHCgDX/tIzAw=="
+BREAKDOWN = "CwVF+yN2yhpnBAFdAAsaFg=="
+"""A reference with four matchings."""
 
 
 def children() -> set[int]:
@@ -134,53 +136,39 @@ def test_questions_within_questions(program: Program) -> None:
             assert one != two
 
 
-def test_other_numbers_amid_many(program: Program) -> None:
+def test_one_process_answers_all(program: Program) -> None:
+    """Whatever is asked with whatever numbers, also amid many others."""
     before = children()
     with town(program) as asked:
         for number, page in enumerate(asked.matches([REFERENCE] * 600)):
             assert isinstance(page, olr.Page) and len(page.matchings) == 1
-            assert asked.match(ROADWORKS, page=1 + number // 300).matchings
-            assert len(children() - before) <= 3
+            first, second, *_ = asked.match(BREAKDOWN, page=2 + number % 3).matchings
+            assert asked.match(BREAKDOWN, after=first.cursor).matchings[0] == second
+        assert asked.why(REFERENCE) and asked.candidates(REFERENCE) and asked.places(REFERENCE)
         assert len(children() - before) == 1
-        left = asked.matches([REFERENCE] * 600, page=7)
-        assert children() - before and asked.match(REFERENCE, page=8)
-        assert next(left) == asked.match(REFERENCE, page=9)
-        left.close()  # type: ignore[attr-defined]
-        assert asked.match(REFERENCE, page=9) and len(children() - before) == 1
-
-
-def test_an_interrupted_question(program: Program, monkeypatch: pytest.MonkeyPatch) -> None:
-    """While it waits: its line is passed over, and the process goes on."""
-    with town(program) as asked:
-        expected = asked.match(ROADWORKS)
-
-        def interrupted(*_: object) -> NoReturn:
-            raise KeyboardInterrupt
-
-        with monkeypatch.context() as patch, pytest.raises(KeyboardInterrupt):
-            patch.setattr("olr.asking.threaded.Batch._await_data", interrupted)
-            asked.match(REFERENCE)
-        assert asked.match(ROADWORKS) == expected
-        (pair,) = asked._source._processes._batches["match"]  # type: ignore[attr-defined]
-        assert not pair[1]._arrived and not pair[1]._dropped
 
 
 def test_an_interrupted_start(program: Program, monkeypatch: pytest.MonkeyPatch) -> None:
-    """What was started meanwhile ends."""
+    """What is started meanwhile ends."""
+    begin = threading.Thread.start
 
-    class Interrupted(Future[Any]):
-        def result(self, timeout: float | None = None) -> NoReturn:
-            super().result(timeout)
+    def interrupted(thread: threading.Thread) -> None:
+        begin(thread)
+        if threading.current_thread() is threading.main_thread():
             raise KeyboardInterrupt
 
+    def slow(*words: Any, **pipes: Any) -> "subprocess.Popen[bytes]":
+        time.sleep(0.2)
+        return start(*words, **pipes)
+
     before, threads = children(), threading.active_count()
-    with town(program) as asked, monkeypatch.context() as patch:
-        patch.setattr("olr.asking.threaded.Future", Interrupted)
-        with pytest.raises(KeyboardInterrupt):
+    with town(program) as asked:
+        with monkeypatch.context() as patch, pytest.raises(KeyboardInterrupt):
+            patch.setattr(threading.Thread, "start", interrupted)
+            patch.setattr("olr.asking.threaded.start", slow)
             asked.match(REFERENCE)
-        wait_until(lambda: children() <= before and threading.active_count() == threads)
-        patch.undo()
-        assert asked.match(REFERENCE)
+        wait_until(lambda: threading.active_count() == threads)
+        assert children() <= before and asked.match(REFERENCE)
 
 
 def test_two_maps_at_once(program: Program) -> None:
@@ -218,18 +206,17 @@ def test_a_map_that_isnt_closed(program: Program) -> None:
     asked.match(REFERENCE)
     del asked
     gc.collect()
-    code = "import olr, sys; m = olr.Map.of_folder(sys.argv[1]); m.match(sys.argv[2]); print(m._source._processes._batches['match'][0][1]._process.pid)"
+    code = "import olr, sys; m = olr.Map.of_folder(sys.argv[1]); m.match(sys.argv[2]); print(m._source._there[0]._process.pid)"
     environment = os.environ | {"OLR_PROGRAM": str(program.path), "PYTHONPATH": str(TOP / "python")}
     command = [sys.executable, "-c", code, str(TOP / "examples"), REFERENCE]
     ended = subprocess.run(command, env=environment, capture_output=True, text=True, check=True)
-    assert not Path(f"/proc/{int(ended.stdout)}").exists()
+    wait_until(lambda: not is_running(int(ended.stdout)))
 
 
 @pytest.mark.parametrize(
     "call",
     [
         "olr.Map(sys.argv[1], patience=None).match(sys.argv[2])",
-        "olr.Map(sys.argv[1]).match(sys.argv[2], after='8:1.1')",
         "olr.decode(sys.argv[2])",
     ],
 )
@@ -263,18 +250,26 @@ def test_a_thread_that_asked_has_ended(program: Program) -> None:
 
 
 def test_a_forked_process_may_not_ask(program: Program) -> None:
+    """Nor go on with what was asked before."""
     with town(program) as asked:
-        asked.match(REFERENCE)
+        answers = asked.matches([REFERENCE] * 1000)
+        first = next(answers)
         child = os.fork()
         if child == 0:
-            try:
-                asked.match(REFERENCE)
-            except ToolError as error:
-                asked.close()
-                os._exit(7 if "another one here" in str(error) else 1)
-            os._exit(0)
+            said = []
+            calls: list[Callable[[], object]] = [
+                lambda: asked.match(REFERENCE),
+                lambda: next(answers),
+            ]
+            for call in calls:
+                try:
+                    call()
+                except ToolError as error:
+                    said.append("another one here" in str(error))
+            asked.close()
+            os._exit(7 if said == [True, True] else 1)
         assert os.waitstatus_to_exitcode(os.waitpid(child, 0)[1]) == 7
-        assert asked.match(REFERENCE).matchings
+        assert next(answers) == asked.match(REFERENCE) == first
 
 
 def test_a_map_that_is_refused(program: Program, tmp_path: Path) -> None:
@@ -313,17 +308,23 @@ def test_numbers_out_of_range(program: Program) -> None:
         ("echo oops >&2; exit 3", olr.ProgramEnded, "ended with status 3 after 0 answers: oops"),
         ("yes", olr.ProgramEnded, "is it the program olr"),
         (
-            'echo \'{"answer":null,"fault":"Empty","key":"2","record":1}\'; cat',
+            'read record; echo \'{"answer":null,"fault":"Empty","key":"2","record":1}\'; cat',
             olr.ProgramEnded,
-            "key",
+            "it isn't the line of record 1",
         ),
         (
-            'echo \'{"answer":{"matchings":[{}],"next":null},"key":"1"}\'; cat',
+            'read record; echo \'{"answer":{"matchings":[{}],"next":null},"key":"1"}\'; cat',
             olr.ProgramEnded,
             "it doesn't begin as one",
         ),
+        (
+            'read record; echo \'{"answer":null,"fault":"Words --new","key":"1","record":1}\'; cat',
+            olr.ProgramEnded,
+            "doesn't know what it is asked: is it of another version than this package? (--new)",
+        ),
+        ("echo no answer >&2; exit 2", olr.ProgramEnded, "of another version than this package?"),
         ("exec 1>&-; exec sleep 60", olr.ProgramEnded, "signal 9"),
-        ("echo 'olr: BadPage 10' >&2; exit 1", olr.Fault, "BadPage 10"),
+        ("echo 'olr: NoMemory' >&2; exit 1", olr.ProgramEnded, "0 answers: olr: NoMemory"),
     ],
 )
 def test_another_program(
@@ -341,9 +342,6 @@ def test_another_program_that_is_run_once(line: str, tmp_path: Path) -> None:
     path = script(tmp_path, line)
     with pytest.raises(olr.ProgramEnded, match="olr show ended .*: is it the program olr"):
         olr.decode(REFERENCE, program=path)
-    with olr.Map.of_folder(TOP / "examples", program=path) as asked:
-        with pytest.raises(olr.ProgramEnded, match="olr match ended .*: is it the program olr"):
-            asked.match(REFERENCE, after="8:1.1")
 
 
 def test_a_program_that_cant_be_started(tmp_path: Path) -> None:

@@ -9,7 +9,7 @@ from pathlib import Path
 from types import FrameType
 
 from conftest import REFERENCE, TOP, Program
-from olr.asking import exchange, threaded
+from olr.asking import exchange, processes, threaded
 from olr.regions.making import make_store_of_folder
 from test_client_failures import ROADWORKS, nothing_left, town
 
@@ -98,13 +98,17 @@ def run(program: Program, script: str, word: object) -> None:
 
 @pytest.mark.parametrize(
     ("left", "place"),
-    [(ANSWERS, "threaded.os.read"), (ANSWERS, "processes.Asked"), (LOCATED, "threaded.os.read")],
+    [
+        (ANSWERS, "threaded.os.read"),
+        (ANSWERS, "processes.Process.unanswered"),
+        (LOCATED, "threaded.os.read"),
+    ],
     ids=["amid an answer", "amid a start", "of olr.locate"],
 )
 def test_generators_that_the_garbage_collector_closes(
     left: str, place: str, program: Program
 ) -> None:
-    """It may do so in the thread that is amid a question, and has a lock of the map."""
+    """It may do so in a thread that is amid a question, or has a lock of the map."""
     run(program, left, f"olr.asking.{place}")
 
 
@@ -128,7 +132,7 @@ class Interrupt:
 
     def __call__(self, frame: FrameType, event: str, _: object) -> None:
         """Raises it: a function that profiles."""
-        files = threaded.__file__, exchange.__file__
+        files = threaded.__file__, exchange.__file__, processes.__file__
         if frame.f_code.co_filename in files and event in ("call", "c_return"):
             self._left -= 1
             if self._left == 0:

@@ -13,7 +13,7 @@ from pathlib import Path
 import olr
 from bad_programs import bad_program, starts
 from conftest import REFERENCE, TOP, Program
-from olr.asking.patience import require_patience
+from olr.asking import once
 from olr.asking.processes import AHEAD
 from olr.tools import run
 from servers import wait_until
@@ -99,21 +99,48 @@ def test_threads(program: Program, bad: Path) -> None:
     assert [said[number] for number in range(6)] == [BAD] * 2 + [expected] * 4
 
 
-@pytest.mark.parametrize("is_batch", [True, False])
-def test_all_that_a_program_started_is_ended(is_batch: bool, tmp_path: Path) -> None:
+def test_others_whose_records_are_slow(program: Program, tmp_path: Path) -> None:
+    """Whoever waits behind them does so as long as the patience, however many there are: then another process answers, and theirs goes on."""
+    slow = bad_program(tmp_path / "slow", program, {BAD: "is slow"})
+    with town(slow, 1) as asked:
+        others = asked.matches([BAD] * AHEAD)
+        first, begin = next(others), time.monotonic()
+        assert asked.match(REFERENCE) and asked.match(REFERENCE)
+        assert time.monotonic() - begin < 10
+        assert all(next(others) == first for _ in range(15)) and starts(slow) == 3
+
+
+@pytest.mark.parametrize("way", ["dribbles", "no line"])
+def test_a_program_that_writes_no_line(way: str, program: Program, tmp_path: Path) -> None:
+    """Whatever else it writes doesn't make the patience longer."""
+    bad = bad_program(tmp_path / "bad", program, {BAD: way})
+    with town(bad, 1) as asked:
+        with pytest.raises(olr.TimedOut, match="nothing for 1 seconds to reference 2, "):
+            list(asked.matches([REFERENCE, BAD]))
+
+
+def test_several_processes(program: Program, tmp_path: Path) -> None:
+    """One for each who asks, but no more than are admitted."""
+    slow, before = bad_program(tmp_path / "slow", program, {BAD: "is slow"}), children()
+    with olr.Map(TOP / "examples", program=slow, processes=2) as asked:
+        assert asked.match(REFERENCE) == asked.match(REFERENCE) and starts(slow) == 1
+        streams = [asked.matches([BAD] * 3) for _ in range(3)]
+        assert len({next(stream) for stream in streams}) == 1
+        assert len(children() - before) == starts(slow) == 2
+    with pytest.raises(ValueError, match="processes is how many there may be, from 1 on, not 0"):
+        olr.Map(TOP / "examples", processes=0)
+
+
+@pytest.mark.parametrize("is_map", [True, False])
+def test_all_that_a_program_started_is_ended(is_map: bool, tmp_path: Path) -> None:
     """It has a group of its own."""
     script, child = tmp_path / "program", tmp_path / "child"
     script.write_text(f"#!/bin/sh\nsleep 600 &\necho $! > {child}\nwait\n")
     script.chmod(0o755)
     with town(script, patience=1) as asked, pytest.raises(olr.TimedOut):
-        asked.match(REFERENCE, after=None if is_batch else "8:1.1")
+        asked.match(REFERENCE) if is_map else once.run(script, ["show"], 1)
     status = Path(f"/proc/{child.read_text().strip()}/stat")
-    for _ in range(100):
-        if not status.exists() or status.read_text().split()[2] == "Z":
-            break
-        time.sleep(0.05)
-    else:
-        raise AssertionError("what the program started is left behind")
+    wait_until(lambda: not status.exists() or status.read_text().split()[2] == "Z")
 
 
 def test_patience_without_end(program: Program, tmp_path: Path) -> None:
@@ -132,15 +159,6 @@ def test_patience_without_end(program: Program, tmp_path: Path) -> None:
         timer.join()
 
 
-def test_a_page_behind_a_cursor(tmp_path: Path) -> None:
-    script = tmp_path / "program"
-    script.write_text("#!/bin/sh\nsleep 600\n")
-    script.chmod(0o755)
-    with town(script, 0.3) as asked:
-        with pytest.raises(olr.TimedOut, match="olr match didn't end within 0.3 seconds"):
-            asked.match(REFERENCE, after="8:1.1")
-
-
 def test_an_error_of_the_references(program: Program) -> None:
     """One that another map raised isn't taken for one of this map."""
 
@@ -151,18 +169,6 @@ def test_an_error_of_the_references(program: Program) -> None:
     with town(program.path) as asked:
         with pytest.raises(olr.TimedOut, match="mine"):
             list(asked.matches(references()))
-
-
-@pytest.mark.parametrize("patience", [0, -1.0, float("nan"), float("inf"), 10**7])
-def test_no_patience(patience: float) -> None:
-    with pytest.raises(ValueError, match="patience is a number of seconds above 0"):
-        require_patience(patience)
-
-
-def test_patience_of_another_type() -> None:
-    for patience in (True, "60"):
-        with pytest.raises(TypeError, match="patience is a number of seconds"):
-            require_patience(patience)  # type: ignore[arg-type]
 
 
 def test_a_command(

@@ -192,7 +192,8 @@ def test_a_map_that_changes_meanwhile(
     monkeypatch: pytest.MonkeyPatch,
     capsys: pytest.CaptureFixture[str],
 ) -> None:
-    """Behind a thousand messages of a chunk each: one error, and nothing is written."""
+    """Behind a thousand messages of a chunk each. A store is read again, so that is one error, and nothing is written. Files were read once: all
+    answers are of what they were."""
     maps = {"old": road(*STRAIGHT), "new": road((0, 20_000), (10_000, 20_000))}
     files = {name: drawing.write(tmp_path / name) for name, drawing in maps.items()}
     if suffix:
@@ -207,13 +208,19 @@ def test_a_map_that_changes_meanwhile(
                 changed_map(files[which], suffix)
             yield message
 
+    out = tmp_path / "out.csv"
+    words = ["compare", messages, "--format", "tab", "--out", out, "--force"]
+    words += ["--map", files["old"].with_suffix(suffix), "--with", files["new"].with_suffix(suffix)]
+    assert suffix or run(list(map(str, words))) == 0
+    expected = None if suffix else (out.read_bytes(), capsys.readouterr())
     monkeypatch.setattr(message_file, "messages_of", read)
     monkeypatch.setattr(message_file, "is_read_twice", lambda file: False)
     there = sorted(os.listdir(tmp_path))
-    words = ["compare", messages, "--format", "tab", "--out", tmp_path / "out.csv"]
-    words += ["--map", files["old"].with_suffix(suffix), "--with", files["new"].with_suffix(suffix)]
-    assert run(list(map(str, words))) == 1
+    assert run(list(map(str, words))) == (1 if suffix else 0)
     shown = capsys.readouterr()
+    if expected is not None:
+        assert (out.read_bytes(), shown) == expected
+        return
     assert shown.err.count("\n") == 1 and "changed" in shown.err and shown.out == ""
     assert sorted(os.listdir(tmp_path)) == there
 

@@ -5,14 +5,14 @@ import pytest
 from collections.abc import Mapping
 from io import BytesIO
 from pathlib import Path
-from typing import Any, cast
+from typing import cast
 
 from fake_pool import run_within, turns
 from olr.asking.files import Version
 from olr.errors import MapRefused
 from olr.serving.features import Features, is_wanted
 from olr.serving.makers import Makers
-from olr.serving.queries import Question, kind_of
+from olr.serving.queries import Question, asked_of
 from olr.serving.rooms import Room
 from olr.serving.served import Known, Served
 from olr.serving.tasks import MapVersion
@@ -73,11 +73,11 @@ class FakeMap:
         self.versions, self.asked = versions, 0
         self.digest = network
 
-    async def answer(self, question: Question, _: Any) -> Known:
+    async def answer(self, question: Question) -> Known:
         """An answer in which there is nothing."""
         self.asked += 1
         empty = {"match": b'{"matchings":[],"next":null}', "candidates": b'{"points":[]}'}
-        what = question.kind.what
+        what = question.asked.what
         return Known(empty[what], Version(self.versions[what], None))
 
     def files(self) -> tuple[Path, ...]:
@@ -110,18 +110,18 @@ def test_large_ones_are_made_one_at_a_time(page: int, most: int) -> None:
     there = greatest = 0
 
     class Counting(FakeMap):
-        async def answer(self, question: Question, _: Any) -> Known:
+        async def answer(self, question: Question) -> Known:
             nonlocal there, greatest
             there += 1
             greatest = max(greatest, there)
             await turns()
             there -= 1
-            return await super().answer(question, _)
+            return await super().answer(question)
 
     async def run() -> None:
         features = features_of(Counting({"match": "a", "candidates": "a"}, "a"))
-        question = Question(kind_of("match", {"page": str(page)}, 10_000), b"x", None)
-        asked = [features.of(question, lambda: False) for _ in range(3)]
+        question = Question(asked_of("match", {"page": str(page)}, 10_000), b"x", None)
+        asked = [features.of(question) for _ in range(3)]
         await asyncio.gather(*asked)
         assert greatest == most
 
@@ -135,11 +135,11 @@ def test_answers_of_another_version(other: str) -> None:
         what: "old" if what == other else "new" for what in ("match", "candidates", "network")
     }
     fake = FakeMap(digests, digests["network"])
-    question = Question(kind_of("match", {}, 10_000), b"x", None)
+    question = Question(asked_of("match", {}, 10_000), b"x", None)
 
     async def run() -> None:
         features = features_of(fake)
-        await features.of(question, lambda: False)
+        await features.of(question)
 
     with pytest.raises(MapRefused, match="another version of the map"):
         run_within(run())

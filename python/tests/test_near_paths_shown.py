@@ -13,8 +13,8 @@ from olr.pages.view.scene import scene_of
 from olr.regions.making import make_store_of_folder
 from olr.serving.folder_map import FolderMap
 from olr.serving.ground import Grounds
-from olr.serving.limits import Capacity, Limits
-from olr.serving.queries import kind_of
+from olr.serving.limits import Limits
+from olr.serving.queries import asked_of
 from olr.serving.scene_texts import streets_for
 from olr.serving.served import Known, Versions
 from olr.serving.tasks import JudgedBy, MapVersion, SceneTask
@@ -105,7 +105,7 @@ def read_map_of(folder: Path) -> FolderMap:
     """A map as it is served once a process has read it."""
 
     async def read() -> FolderMap:
-        served = FolderMap(folder, Capacity(1, 1), Limits())
+        served = FolderMap(folder, 1, Limits())
         edition = served.pool.edition
         await edition.keep(await edition.found())
         return served
@@ -137,7 +137,7 @@ def test_streets_are_those_of_the_version_that_is_served(program: Program, tmp_p
     assert grounds.of(versions.map()).streets(*about) is streets
     versions.note(Known(b"", version._replace(bans="0")))
     assert not versions.are_one()
-    judged_by = JudgedBy(kind_of("places", {}, 10), None)
+    judged_by = JudgedBy(asked_of("places", {}, 10), None)
     task = SceneTask(judged_by, drawn.text, b"", b"", b"", b"", None, True, None, None)
     _, reference, matching = about
     ground = grounds.of(

@@ -15,7 +15,7 @@ from xml.etree import ElementTree
 
 import olr
 from conftest import OF_PROGRAM, TOP, Program
-from olr.client.given import opened
+from olr.client.map_client import opened
 from olr.likely.long_list import LIST
 from olr.matching.columns import ANSWERS
 from olr.model.answers import about

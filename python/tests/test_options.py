@@ -26,11 +26,11 @@ from olr.model.profiles import FEED
 from olr.serving import openapi, pages
 from olr.serving.limits import Limits
 from olr.serving.problems import Problem
-from olr.serving.queries import kind_of
+from olr.serving.queries import asked_of
 
 def problem(what, options):
     try:
-        return kind_of(what, options, limits.look).words
+        return asked_of(what, options, limits.look).words
     except Problem as problem:
         return problem.detail
 

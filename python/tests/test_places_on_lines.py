@@ -3,6 +3,7 @@
 import numpy as np
 import pytest
 from pathlib import Path
+from typing import Any
 
 import olr
 from olr.comparing.places import Limits, Spot, Stretch, difference, likeliest_places
@@ -10,7 +11,7 @@ from olr.confidence.judged import judged
 from olr.errors import MapRefused, ToolError
 from olr.geometry.network import between, middle
 from olr.model.answers import Candidate, Leg, Matching, PlaceOfReference, Places
-from olr.model.objects import page_of
+from olr.model.objects import read_answer
 from olr.model.pieces import Piece, Pieces, Place
 from stores import folder_of
 
@@ -64,7 +65,7 @@ def test_rows_of_another_version(matchings: int, digest: str, network: olr.Netwo
     found = ",".join(MATCHING % rank for rank in range(1, matchings + 1))
     assert network.digest is not None
     text = f'{{"matchings":[{found}],"next":null}}'.encode()
-    page = page_of(text, network.digest if digest == "own" else "other")
+    page: Any = read_answer("match", text, network.digest if digest == "own" else "other")
     if digest == "own":
         assert olr.to_geodataframe([page], network)["lines"].tolist() == ["7"] * matchings
     else:

@@ -1,402 +1,212 @@
-"""Who gets a process of the pool of `olr-tools serve`, and when: by a clock that the tests set, with made-up processes."""
+"""Who is answered next by the pool of `olr-tools serve`, and when: by a clock that the tests set, with made-up processes."""
 
 import asyncio
+import gc
 import pytest
-import random
-from typing import cast
 
-from fake_pool import KINDS, MATCH, FakeEdition, FakePool, run_within, turns
-from olr.errors import MapRefused, ProgramEnded, TimedOut
-from olr.serving.edition import Edition
+from fake_pool import FakePool, run_within, turns
 from olr.serving.limits import ABREAST
 from olr.serving.problems import Problem
+from olr.serving.process import SECONDS_LONG
 
-OTHER = KINDS[0]
-SECONDS_TO_READ = 0.3
-"""So long a process takes to read the largest map (docs/SERVE.md)."""
+LONG = SECONDS_LONG + 0.1
 
 
-def test_more_kinds_than_processes(monkeypatch: pytest.MonkeyPatch) -> None:
-    """They take turns, and most of the time is spent on answers, not on reading the map."""
-    step, count = 0.005, 400
+def test_processes_are_started_one_at_a_time(monkeypatch: pytest.MonkeyPatch) -> None:
+    """While something waits and there are fewer than there may be. A request goes to the one that has the fewest."""
 
     async def run() -> None:
-        fake = FakePool(monkeypatch, workers=2, seconds=60)
-        texts = [(f"{number}", kind) for number in range(count) for kind in KINDS]
-        random.Random(5).shuffle(texts)
-        asked = [fake.asked(*one) for one in texts]
+        fake = FakePool(monkeypatch, workers=3)
+        (first,) = await fake.ready()
+        asked = [fake.asked("x", client=f"{number}") for number in range(ABREAST)]
         await turns()
-        reading = answered = 0
-        for number in range(4 * len(texts)):
-            fake.clock.now += step
-            for one in fake.there():
-                if one.is_ready and one.requests:
-                    one.answer()
-                    answered += 1
-                elif not one.is_ready:
-                    reading += 1
-                    if fake.clock.now - one.since >= SECONDS_TO_READ:
-                        one.read()
-            assert len(fake.there()) <= 2
-            if number % 20 == 0:
-                fake.pool.look()
-            await turns()
-            if answered == len(texts):
-                break
-        found = [one.result().decode() for one in asked]
-        assert found == [text for text, _ in texts]
-        assert reading < answered
+        assert len(first.requests) == ABREAST and fake.started == [first]
+        asked += [fake.asked("x", client=f"{number}") for number in range(3 * ABREAST)]
+        await turns()
+        assert len(fake.started) == 2
+        await fake.started[1].read()
+        assert len(fake.started[1].requests) == ABREAST and len(fake.started) == 3
+        await fake.started[2].read()
+        assert fake.pool.sizes() == {"working": 3, "idle": 0, "waiting": ABREAST}
+        fake.started[1].answer(3)
+        assert [len(one.requests) for one in fake.started] == [ABREAST] * 3
+        fake.started[2].answer(3)
+        fake.started[1].answer()
+        asked.append(fake.asked("y"))
+        await turns()
+        assert fake.started[2].texts[-1] == b"y"
+        await fake.close(*asked)
 
     run_within(run())
 
 
-def test_a_lull(monkeypatch: pytest.MonkeyPatch) -> None:
-    """A process that was idle for a tenth of a second ends for another kind, which has none, and not before."""
+def test_clients_take_turns(monkeypatch: pytest.MonkeyPatch) -> None:
+    """One that asks once doesn't wait for all that another one asked before."""
 
     async def run() -> None:
         fake = FakePool(monkeypatch, workers=1)
-        first = await fake.ready()
-        fake.clock.now += 0.09
-        asked = fake.asked("x", OTHER)
+        (first,) = await fake.ready()
+        asked = [fake.asked(f"{number}", client="a") for number in range(20)]
         await turns()
-        fake.pool.look()
-        assert not first.is_retiring and fake.pool.sizes()["waiting"] == 1
-        fake.clock.now += 0.02
-        fake.pool.look()
-        assert first.is_retiring
-        (second,) = fake.there()
-        assert second.kind == OTHER
-        second.read()
+        asked += [fake.asked(text, client=text) for text in "bc"]
         await turns()
-        second.answer()
-        assert await asked == b"x"
+        while first.requests:
+            first.answer()
+        assert first.texts[:8] == [b"0", b"1", b"2", b"3", b"b", b"c", b"4", b"5"]
+        assert len(await asyncio.gather(*asked)) == 22
 
     run_within(run())
 
 
-def test_a_turn(monkeypatch: pytest.MonkeyPatch) -> None:
-    """A process that is always at work gets nothing more after a tenth of a second while another kind waits, and ends for it once it has
-    been there for a second and has answered what it was asked."""
+@pytest.mark.parametrize("workers, share", [(1, 1), (2, 1), (4, 3)])
+def test_a_client_leaves_a_process(
+    workers: int, share: int, monkeypatch: pytest.MonkeyPatch
+) -> None:
+    """To others, if there are two or more: these are answered while its questions take long."""
 
     async def run() -> None:
-        fake = FakePool(monkeypatch, workers=1)
-        first = await fake.ready()
-        asked = [fake.asked(f"{number}") for number in range(2 * ABREAST)]
+        fake = FakePool(monkeypatch, workers)
+        processes = await fake.ready(workers)
+        asked = [fake.asked("long", client="a") for _ in range(workers * ABREAST)]
         await turns()
-        fake.clock.now += 0.001
-        others = fake.asked("other", OTHER)
+        assert sum(1 for one in processes if one.requests) == share
+        assert sum(len(one.requests) for one in processes) == share * ABREAST
+        await fake.after(LONG)
+        assert fake.pool.sizes()["waiting"] == (workers - share) * ABREAST
+        quick = fake.asked("quick", client="b")
         await turns()
-        fake.clock.now += 0.001
-        asked += [fake.asked(f"{number}") for number in range(2 * ABREAST, 3 * ABREAST)]
-        await turns()
-        fake.clock.now += 0.09
-        first.answer()
-        assert len(first.requests) == ABREAST
-        fake.clock.now += 0.02
-        for number in range(ABREAST):
-            first.answer()
-            assert len(first.requests) == (ABREAST - 1 - number or ABREAST)
-        fake.clock.now += 0.9
-        for number in range(ABREAST):
-            assert fake.there() == [first]
-            first.answer()
-        assert first.is_retiring
-        (second,) = fake.there()
-        second.read()
-        await turns()
-        second.answer()
-        assert await others == b"other"
-        fake.clock.now += 0.2
-        fake.pool.look()
-        (third,) = fake.there()
-        assert third.kind == MATCH
-        third.read()
-        await turns()
-        while third.requests:
-            third.answer()
-        found = await asyncio.gather(*asked)
-        assert found == [b"%d" % number for number in range(3 * ABREAST)]
+        if workers > 1:
+            processes[-1].answer()
+            assert await quick == b"quick"
+        await fake.close(*asked, quick)
 
     run_within(run())
 
 
-def test_a_process_that_isnt_used(monkeypatch: pytest.MonkeyPatch) -> None:
-    """It ends after five seconds for a kind that has too few, and not before."""
+def test_nothing_waits_behind_what_takes_long(monkeypatch: pytest.MonkeyPatch) -> None:
+    """After a second another process is asked; that the first one answers it too is heard by nobody."""
 
     async def run() -> None:
         fake = FakePool(monkeypatch, workers=2)
-        first = await fake.ready()
-        waiting = fake.asked("y", OTHER)
+        first, second = await fake.ready(2)
+        fill = [fake.asked("fill", client="c") for _ in range(ABREAST)]
         await turns()
-        second = fake.started[1]
-        second.read()
+        long, quick = fake.asked("long", client="a"), fake.asked("quick", client="b")
         await turns()
-        second.answer()
-        assert await waiting == b"y"
-        asked = [fake.asked(f"{number}") for number in range(ABREAST + 1)]
-        await turns()
-        assert len(first.requests) == ABREAST and fake.pool.sizes()["waiting"] == 1
-        fake.clock.now += 4.9
+        assert (first.texts[-1], second.texts) == (b"fill", [b"long", b"quick"])
+        first.answer(ABREAST)
+        await fake.after(LONG - 0.2)
+        assert len(first.requests) == 0
+        await fake.after(0.2)
+        assert first.texts[-1] == b"quick"
         first.answer()
-        asked.append(fake.asked("more"))
+        assert await quick == b"quick"
+        more = fake.asked("more", client="b")
         await turns()
-        assert not second.is_retiring
-        fake.clock.now += 0.2
-        asked.append(fake.asked("again"))
+        assert first.texts[-1] == b"more"
+        second.answer(2)
+        assert await long == b"long" and second.texts == [b"long", b"quick"]
+        await fake.close(more, *fill)
+
+    run_within(run())
+
+
+def test_what_was_taken_back_is_asked_once_of_a_process(monkeypatch: pytest.MonkeyPatch) -> None:
+    """If the one that it was taken from is free before others."""
+
+    async def run() -> None:
+        fake = FakePool(monkeypatch, workers=1)
+        (first,) = await fake.ready()
+        long, quick = fake.asked("long", client="a"), fake.asked("quick", client="b")
         await turns()
-        assert second.is_retiring and fake.there()[1].kind == MATCH
-        await fake.pool.close()
-        await asyncio.gather(*asked, return_exceptions=True)
+        await fake.after(LONG)
+        assert fake.pool.sizes()["waiting"] == 1
+        first.answer()
+        assert first.texts == [b"long", b"quick"] and fake.pool.sizes()["waiting"] == 0
+        first.answer()
+        assert [await long, await quick] == [b"long", b"quick"]
 
     run_within(run())
 
 
 def test_what_takes_too_long(monkeypatch: pytest.MonkeyPatch) -> None:
-    """The request that a process works at is refused when its time is over, and those that wait for a process; none before."""
+    """The request that a process works at is refused when its time is over, and those behind it are asked again; and those that wait for a
+    process, but for those of streams, which wait for others of the same stream."""
 
     async def run() -> None:
         fake = FakePool(monkeypatch, workers=1, seconds=10)
-        first = await fake.ready()
-        asked = [fake.asked(f"{number}") for number in range(ABREAST)]
-        late = fake.asked("late", OTHER)
+        (first,) = await fake.ready()
+        asked = [fake.asked(f"{number}") for number in range(ABREAST + 1)]
+        late, in_stream = fake.asked("late"), fake.asked("in stream", is_in_stream=True)
         await turns()
-        fake.clock.now += 5
+        await fake.after(5)
         first.answer()
-        fake.clock.now += 4.9
-        fake.pool.look()
-        await turns()
+        await fake.after(4.9)
         assert not late.done()
-        fake.clock.now += 0.2
-        fake.pool.look()
+        await fake.after(0.2)
         with pytest.raises(Problem, match="no process was free for 10 seconds"):
             await late
-        fake.clock.now += 4.8
-        fake.pool.look()
-        await turns()
+        await fake.after(4.8)
         assert await asked[0] == b"0" and not asked[1].done()
-        fake.clock.now += 0.2
-        fake.pool.look()
-        with pytest.raises(TimedOut, match="answered nothing for 10 seconds"):
-            await asked[1]
-        assert fake.pool.restarts == {"time": 1}
-        await fake.pool.close()
-        await asyncio.gather(*asked[2:], return_exceptions=True)
+        await fake.after(0.2)
+        error = await asyncio.gather(asked[1], return_exceptions=True)
+        assert "answered nothing for 10 seconds" in str(error[0])
+        assert fake.pool.restarts == {"time": 1} and fake.there() == fake.started[1:]
+        await fake.started[1].read()
+        assert fake.started[1].texts == [b"2", b"3", b"4", b"in stream"]
+        fake.started[1].answer(4)
+        assert await asyncio.gather(*asked[2:], in_stream) == [b"2", b"3", b"4", b"in stream"]
 
     run_within(run())
 
 
 def test_clients_that_left(monkeypatch: pytest.MonkeyPatch) -> None:
-    """What they asked isn't given to a process that becomes free, and doesn't wait any more at the next look."""
+    """What they asked isn't given to a process, and doesn't wait. A process that works for one for half a second is ended, and what waits
+    behind is asked again."""
 
     async def run() -> None:
         fake = FakePool(monkeypatch, workers=1)
-        first = await fake.ready()
+        (first,) = await fake.ready()
         asked = [fake.asked(f"{number}") for number in range(ABREAST)]
-        left = fake.asked("left", is_gone=True)
-        last = fake.asked("last")
+        left, last, waiting = (fake.asked(text) for text in ("left", "last", "waiting"))
+        await turns()
+        left.cancel()
         await turns()
         first.answer()
         assert first.texts == [b"0", b"1", b"2", b"3", b"last"]
-        with pytest.raises(Problem, match="nobody waits for it"):
-            await left
-        others = [fake.asked("other", OTHER, is_gone) for is_gone in (True, False)]
-        await turns()
-        assert fake.pool.sizes()["waiting"] == 2
-        fake.pool.look()
-        await turns()
-        assert others[0].done() and not others[1].done()
-        assert fake.pool.sizes()["waiting"] == 1
-        await fake.pool.close()
-        await asyncio.gather(*asked, last, *others, return_exceptions=True)
-
-    run_within(run())
-
-
-def test_files_that_come_back(monkeypatch: pytest.MonkeyPatch) -> None:
-    """While they are others no process is started for a kind that has none; then it is again."""
-
-    async def run() -> None:
-        fake = FakePool(monkeypatch, workers=2)
-        await fake.ready()
-        fake.edition.refused = MapRefused("the files have changed")
-        await fake.pool.look_at_files()
-        with pytest.raises(MapRefused):
-            await fake.asked("x", OTHER)
-        assert len(fake.started) == 1 and fake.pool.is_able()
-        fake.edition.refused = None
-        await fake.pool.look_at_files()
-        asked = fake.asked("x", OTHER)
-        await turns()
-        fake.started[1].read()
-        await turns()
-        fake.started[1].answer()
-        assert await asked == b"x"
-
-    run_within(run())
-
-
-@pytest.mark.parametrize("when", ["it waits", "it has just got it"])
-def test_a_request_that_ends_before_it_has_its_place(
-    when: str, monkeypatch: pytest.MonkeyPatch
-) -> None:
-    """The place is free for others."""
-
-    async def run() -> None:
-        fake = FakePool(monkeypatch, workers=1)
-        first = await fake.ready()
-
-        async def use() -> None:
-            async with fake.pool.place():
-                raise AssertionError("it was cancelled before")
-
-        waiting = asyncio.create_task(use())
-        await turns()
-        assert not waiting.done() and fake.pool.sizes()["waiting"] == 1
-        fake.clock.now += 1
-        if when == "it has just got it":
-            fake.pool.look()
-            assert first.is_retiring and fake.pool.sizes()["apart"] == 1
         waiting.cancel()
-        with pytest.raises(asyncio.CancelledError):
-            await waiting
-        fake.pool.look()
-        assert fake.pool.sizes()["apart"] == fake.pool.sizes()["waiting"] == 0
-        assert first.is_retiring == (when == "it has just got it")
-        async with asyncio.timeout(5), fake.pool.place():
-            assert fake.pool.sizes()["apart"] == 1
-
-    run_within(run())
-
-
-def test_a_kind_with_several_processes(monkeypatch: pytest.MonkeyPatch) -> None:
-    """One of them ends at once for another kind: the one with the fewest requests."""
-
-    async def run() -> None:
-        fake = FakePool(monkeypatch, workers=2)
-        first = await fake.ready()
-        asked = [fake.asked(f"{number}") for number in range(ABREAST + 1)]
+        asked[1].cancel()
         await turns()
-        second = fake.started[1]
-        second.read()
-        await turns()
-        while second.requests:
-            second.answer()
-        assert len(first.requests) > 0
-        other = fake.asked("other", OTHER)
-        await turns()
-        assert second.is_retiring and not first.is_retiring
-        assert fake.there()[1].kind == OTHER
-        await fake.pool.close()
-        await asyncio.gather(*asked, other, return_exceptions=True)
-
-    run_within(run())
-
-
-def test_a_process_that_ends(monkeypatch: pytest.MonkeyPatch) -> None:
-    """What it left is asked once more, in its order. The request at which processes end twice is refused."""
-
-    async def run() -> None:
-        fake = FakePool(monkeypatch, workers=1)
-        first = await fake.ready()
-        bad, *others = [fake.asked(text) for text in ("bad", "1", "2")]
-        await turns()
-        first.fail(ProgramEnded("it ended"))
-        second = fake.started[1]
-        second.read()
-        await turns()
-        assert second.texts == [b"bad", b"1", b"2"]
-        second.fail(ProgramEnded("it ended again"))
-        with pytest.raises(ProgramEnded, match="it ended again"):
-            await bad
-        third = fake.started[2]
-        third.read()
-        await turns()
-        assert third.texts == [b"1", b"2"]
-        while third.requests:
-            third.answer()
-        assert await asyncio.gather(*others) == [b"1", b"2"]
-        assert fake.pool.restarts == {"ended": 2}
-
-    run_within(run())
-
-
-def test_a_process_that_refuses_the_map(monkeypatch: pytest.MonkeyPatch) -> None:
-    """What it was asked is refused, and no other one is started."""
-
-    async def run() -> None:
-        fake = FakePool(monkeypatch, workers=2)
-        await fake.ready()
-        asked = fake.asked("x", OTHER)
-        await turns()
-        fake.started[1].fail(MapRefused("the map is refused"))
-        with pytest.raises(MapRefused):
-            await asked
-        assert len(fake.started) == 2 and fake.pool.sizes()["waiting"] == 0
-
-    run_within(run())
-
-
-def test_a_process_that_reads_the_map_for_long(monkeypatch: pytest.MonkeyPatch) -> None:
-    """That isn't the time of a request."""
-
-    async def run() -> None:
-        fake = FakePool(monkeypatch, workers=2, seconds=10)
-        await fake.ready()
-        asked = fake.asked("x", OTHER)
-        await turns()
-        fake.clock.now += 11
-        fake.pool.look()
-        await turns()
-        assert not asked.done()
-        fake.started[1].read()
-        await turns()
-        fake.started[1].answer()
-        assert await asked == b"x"
-
-    run_within(run())
-
-
-def test_files_that_are_read_anew_for_a_kind_that_waits(monkeypatch: pytest.MonkeyPatch) -> None:
-    """The process that reads them answers what waits, and no other one is started for it."""
-
-    async def run() -> None:
-        fake = FakePool(monkeypatch, workers=4, processes=2)
-        first = await fake.ready()
-        first.fail(ProgramEnded("it ended"))
-        others = [fake.asked("other", kind) for kind in KINDS[:2]]
-        await turns()
-        waiting = fake.asked("x")
-        await turns()
-        assert fake.pool.sizes()["waiting"] == 1
-        renewing = asyncio.create_task(fake.pool.renew(cast(Edition, FakeEdition()), MATCH))
-        await turns()
-        *olds, new = fake.started[1:]
-        new.read()
-        await renewing
-        new.answer()
-        for one in olds:
-            one.read()
-            await turns()
-            one.answer()
-        assert await asyncio.gather(waiting, *others) == [b"x", b"other", b"other"]
-        assert len(fake.started) == 4 and fake.there() == [new]
+        await fake.after(0.4)
+        assert fake.there() == [first] and fake.pool.sizes()["waiting"] == 0
+        await fake.after(0.2)
+        (second,) = fake.there()
+        await second.read()
+        assert second.texts == [b"2", b"3", b"last"] and not fake.pool.restarts
+        await fake.close(*asked, last)
 
     run_within(run())
 
 
 def test_the_end(monkeypatch: pytest.MonkeyPatch) -> None:
-    """What waits is refused, and so is what is asked later."""
+    """What is asked and what waits is refused, and so is what is asked later. Nothing is logged of what nobody hears."""
 
     async def run() -> None:
+        heard: list[object] = []
+        asyncio.get_running_loop().set_exception_handler(lambda _, about: heard.append(about))
         fake = FakePool(monkeypatch, workers=1)
         await fake.ready()
-        asked = [fake.asked("x"), fake.asked("y", OTHER)]
-        placed = asyncio.create_task(fake.pool.place().__aenter__())
+        asked = [fake.asked("x") for _ in range(ABREAST + 1)]
+        gone = fake.asked("gone")
         await turns()
+        gone.cancel()
         await fake.pool.close()
         asked.append(fake.asked("z"))
-        for one in (*asked, placed):
+        for one in asked:
             with pytest.raises(Problem, match="the server ends"):
                 await one
+        fake.started.clear()
+        gc.collect()
+        assert not heard
 
     run_within(run())

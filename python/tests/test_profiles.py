@@ -14,7 +14,7 @@ from asking import batch_of
 from conftest import REFERENCE, TOP, Program
 from feeds import data_of
 from olr.client.map_client import Map
-from olr.matching.lacking import Lacking, Other
+from olr.matching.lacking import Lacking
 from olr.model.asked_with import command_text, numbers_text
 from olr.model.profiles import FEED, PROFILES, PROGRAM, as_arguments, resolved, tolerances_of
 from olr.model.questions import TOLERANCES
@@ -301,8 +301,7 @@ def test_asking_more_that_fails() -> None:
             yield
 
     slow: Any = Slow()
-    other: Any = lambda: slow
-    lacking = Lacking(slow, Other(PROGRAM, other))
+    lacking = Lacking(slow, (PROGRAM, {}))
     for _ in range(3):
         lacking.add(LACKING)
     unknown = "what would help isn't known: olr answered nothing"

@@ -16,7 +16,7 @@ from asking import draw_map, draw_references
 from conftest import Program
 from exact_paths import LineGraph, drawn_path, encode
 from olr.arrays import Floats
-from olr.asking.decoding import decode
+from olr.asking.once import decode
 from olr.counts import Counts
 from olr.model.fault import Fault
 from olr.model.map_folder import read_map, write_map

@@ -190,14 +190,14 @@ def test_a_run_whose_program_always_fails(runs: Runs, shared: Shared) -> None:
     log = runs.folder / "log"
     script = runs.folder / "failing"
     script.write_text(
-        f"#!/bin/sh\nif [ $1 = batch ] && [ -e {runs.out}/parts ]; then echo >> {log}; exit 3; fi\n"
+        f"#!/bin/sh\nif [ $1 = answer ] && [ -e {runs.out}/parts ]; then echo >> {log}; exit 3; fi\n"
         f'exec {runs.program.path} "$@"\n'
     )
     script.chmod(0o755)
     ended = runs.run_with(shared, "--per-group", 100, program=script)
     assert ended.status == 1 and ended.stderr.count("\n") == 1
     assert "4 of 4 groups failed" in ended.stderr and "ended with status 3" in ended.stderr
-    assert runs.parts() == [] and log.read_text().count("\n") == 4 * 3 * 2
+    assert runs.parts() == [] and log.read_text().count("\n") == 4 * 3 * 3
 
 
 def test_a_run_in_which_a_group_fails(runs: Runs, shared: Shared) -> None:

@@ -3,27 +3,18 @@
 import os
 import pytest
 import shutil
-from collections.abc import Sequence
-from concurrent.futures import ThreadPoolExecutor
 from dataclasses import replace
 from pathlib import Path
 
 from asking import draw_map
-from bad_programs import FAILING, HANGING, bad_program, starts
-from conftest import REFERENCE, Program
-from olr.asking.numbered import Numbered
-from olr.asking.records import Record
-from olr.errors import ProgramEnded, TimedOut
+from bad_programs import bad_program, starts
+from conftest import Program
 from olr.running.answering import GroupsFailed, answer_groups
 from olr.running.asked_map import AskedMap
 from olr.running.kept import Kept
 from runs import Begun, Runs, Town, assert_resumes, lines_of_batch
-from test_client_failures import children
 
 GROUPS = ["--per-group", 20]
-WAYS = dict.fromkeys(FAILING, ProgramEnded) | dict.fromkeys(HANGING, TimedOut)
-"""How a program fails, and the error. What it says on standard error, or does when all is answered, is no failure of one that is kept."""
-del WAYS["says"], WAYS["hangs after it"]
 
 
 @pytest.mark.parametrize("what", ["match", "places"])
@@ -59,22 +50,19 @@ def begun(here: None, town: Town, program: Program, tmp_path: Path) -> Begun:
 def test_one_process(
     begun: Begun, town: Town, program: Program, tmp_path: Path, monkeypatch: pytest.MonkeyPatch
 ) -> None:
-    """It answers one group after the other, also where some are left out, and another one those before. Without one that is kept there is one
-    for each group."""
+    """It answers one group after the other, in any order. Without one that is kept there is one for each task."""
     log = bad_program(tmp_path / "logging", program, {})
-    monkeypatch.setattr("olr.running.answering.find_program", lambda: log)
+    monkeypatch.setattr("olr.asking.processes.find_program", lambda _: log)
     kept = Kept()
-    for group in (0, 1, 4, 5, 6, 9, 10):
-        answer_groups(begun.job, [group], tmp_path, kept)
-    assert starts(log) == 1
-    for group in (2, 3, 7, 8):
+    for group in (0, 1, 4, 5, 6, 9, 10, 2, 3, 7, 8):
         answer_groups(begun.job, [group], tmp_path, kept)
     kept.end()
-    assert starts(log) == 2
+    assert starts(log) == 1
     assert begun.joined() == lines_of_batch(program, town.folder, "match", town.messages)
     begun.folder.file_of(3).unlink()
-    answer_groups(begun.job, [3], tmp_path)
-    assert starts(log) == 3
+    begun.folder.file_of(4).unlink()
+    answer_groups(begun.job, [3, 4], tmp_path)
+    assert starts(log) == 2
     assert begun.joined() == lines_of_batch(program, town.folder, "match", town.messages)
 
 
@@ -85,7 +73,7 @@ def test_records_at_which_the_program_fails(
     group = begun.folder.group(2, begun.grouped.sha256).records()
     texts = {group[4].text().decode(): "is killed", group[9].text().decode(): "broken JSON"}
     bad = bad_program(tmp_path / "bad", program, texts)
-    monkeypatch.setattr("olr.running.answering.find_program", lambda: bad)
+    monkeypatch.setattr("olr.asking.processes.find_program", lambda _: bad)
     kept = Kept()
     counts = answer_groups(begun.job, begun.groups(), tmp_path, kept)
     assert counts["ProgramFailed"] == 2
@@ -116,15 +104,14 @@ def test_a_file_that_changes_while_it_is_asked(begun: Begun, tmp_path: Path) -> 
     """The lines that were made count for nothing."""
 
     class Changing(Kept):
-        def lines(self, asked, files, patience, records):  # type: ignore[no-untyped-def]
-            yield from super().lines(asked, files, patience, records)
+        def of(self, files, patience):  # type: ignore[no-untyped-def]
             os.utime(files.bans)
+            return super().of(files, patience)
 
     kept = Changing()
     with pytest.raises(GroupsFailed, match="bans.csv changed while it was used: go on by --resume"):
         answer_groups(begun.job, [1], tmp_path, kept)
-    kept.end()
-    assert not begun.has(1)
+    assert not begun.has(1) and kept._processes is None
 
 
 def test_bans_that_come(begun: Begun, tmp_path: Path) -> None:
@@ -136,89 +123,6 @@ def test_bans_that_come(begun: Begun, tmp_path: Path) -> None:
     assert without != begun.question.store
     bans.write_bytes(text)
     assert begun.job.map.digest() == begun.question.store
-
-
-def test_lines_that_arent_all_taken(begun: Begun) -> None:
-    """Their process is of no use to others, and ends with them, whichever thread closes them."""
-    kept, asked, files = Kept(), begun.job.asked(), begun.job.map.files()
-    records = [Record(number, b"a\t" + REFERENCE.encode()) for number in range(1, 5)]
-    left, lines = (kept.lines(asked, files, 60, some) for some in (records[:2], records[2:]))
-    before = children()
-    assert next(left).endswith(b',"record":1}\n')
-    assert next(lines).endswith(b',"record":3}\n')
-    with ThreadPoolExecutor(1) as other:
-        other.submit(left.close).result()
-    assert len(children() - before) == 1
-    assert [line[-4:] for line in lines] == [b":4}\n"]
-    kept.end()
-
-
-def test_another_question_is_asked(begun: Begun) -> None:
-    """By another process, as where a file has another stamp, or a record was passed."""
-    kept, asked, files = Kept(), begun.job.asked(), begun.job.map.files()
-    data = b"a\t" + REFERENCE.encode()
-
-    def asks(number: int, options: Sequence[str] = asked.options) -> Numbered | None:
-        (line,) = kept.lines(asked._replace(options=options), files, 60, [Record(number, data)])
-        assert line.startswith(b'{"answer":') and line.endswith(b',"record":%d}\n' % number)
-        return kept._process
-
-    first = asks(3)
-    assert asks(4) is first and asks(900) is first
-    second = asks(900)
-    assert second is not first and asks(901) is second
-    third = asks(902, ["--radius", "1"])
-    assert third is not second and asks(903, ["--radius", "1"]) is third
-    os.utime(files.nodes)
-    assert asks(904, ["--radius", "1"]) is not third
-    kept.end()
-    assert kept._process is None
-
-
-@pytest.mark.parametrize(("way", "error"), WAYS.items())
-def test_a_process_that_fails(
-    begun: Begun, town: Town, program: Program, tmp_path: Path, way: str, error: type[Exception]
-) -> None:
-    """In each way, at the third of five records or right behind it. It isn't kept."""
-    patience = 0.5 if error is TimedOut else 60
-    group = begun.folder.group(4, begun.grouped.sha256).records()[:5]
-    bad = bad_program(tmp_path / "bad", program, {group[2].text().decode(): way})
-    asked, files, kept = begun.job.asked()._replace(program=bad), begun.job.map.files(), Kept()
-    found = list[bytes]()
-    with pytest.raises(error):
-        for line in kept.lines(asked, files, patience, group):
-            found.append(line)
-        for line in kept.lines(asked, files, patience, [Record(9999, group[0].data)]):
-            found.append(line)
-    assert kept._process is None
-    expected = lines_of_batch(program, town.folder, "match", town.messages)
-    assert set(found) <= set(expected.splitlines(keepends=True))
-
-
-def test_a_line_in_pieces(begun: Begun, tmp_path: Path) -> None:
-    """The program writes it byte by byte, and takes what it is given as slowly."""
-    kept, asked, files = Kept(), begun.job.asked(), begun.job.map.files()
-    records = begun.folder.group(4, begun.grouped.sha256).records()
-    expected = list(kept.lines(asked, files, None, records))
-    kept.end()
-    size = records[-1].number + sum(len(record.data) for record in records)
-    slow = tmp_path / "slow"
-    slow.write_text(
-        f"""#!/usr/bin/python3 -IS
-import os, subprocess, sys
-
-given = b""
-while len(given) < {size}:
-    given += os.read(0, 7)
-ended = subprocess.run([{str(asked.program)!r}, *sys.argv[1:]], input=given, stdout=subprocess.PIPE)
-for begin in range(0, len(ended.stdout), 100):
-    os.write(1, ended.stdout[begin : begin + 100])
-os.read(0, 1)
-"""
-    )
-    slow.chmod(0o755)
-    assert list(kept.lines(asked._replace(program=slow), files, None, records)) == expected
-    kept.end()
 
 
 def test_maps_that_are_refused(runs: Runs, tmp_path: Path) -> None:

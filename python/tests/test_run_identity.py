@@ -92,7 +92,7 @@ def program_that(folder: Path, program: Program, once: str) -> Program:
     """A program that does something when it is first asked, and is the program besides."""
     script = folder / "doing"
     script.write_text(
-        f'#!/bin/sh\nif [ "$1" = batch ] && mkdir {folder}/done 2>{os.devnull}; then\n    {once}\nfi\n'
+        f'#!/bin/sh\nif [ "$1" = answer ] && mkdir {folder}/done 2>{os.devnull}; then\n    {once}\nfi\n'
         f'exec {program.path} "$@"\n'
     )
     script.chmod(0o755)
@@ -128,7 +128,7 @@ def test_a_store_that_is_replaced_in_a_run(editions: Editions, runs: Runs) -> No
     swap = runs.folder / "swapping"
     swap.write_text(
         f"""#!/bin/sh
-if [ "$1" = batch ] && [ -e {runs.out}/parts/000003.jsonl ] && mkdir {runs.folder}/swapped; then
+if [ "$1" = answer ] && [ -e {runs.out}/parts/000003.jsonl ] && mkdir {runs.folder}/swapped; then
     cp {store} {runs.folder}/first.gpkg && mv {editions.other} {store}
 fi 2>{os.devnull}
 exec {runs.program.path} "$@"

@@ -4,22 +4,24 @@ import pytest
 import random
 import re
 import subprocess
+from contextlib import closing
 from pathlib import Path
 
-from bad_programs import FAILING, HANGING, bad_program, starts
+from bad_programs import FAILING, GOOD, HANGING, bad_program, starts
 from conftest import Program
-from olr.asking.blocking import lines_about
 from olr.asking.exchange import Asked
 from olr.asking.files import MapFiles
+from olr.asking.processes import Processes
 from olr.asking.records import Record
 from olr.errors import ProgramEnded, ProgramNotFound, TimedOut
 from olr.messages.message import Reading
-from olr.running.isolating import PIECES, TRIED, Isolating
+from olr.running.isolating import TRIED, isolated
 from olr.running.records import read_records
 from runs import Runs, Town
 
-PATIENCE = 3.0
+PATIENCE = 2.0
 """Seconds: long enough for a good program on a busy machine."""
+ASKED = Asked("match", ("--page", "1"))
 
 
 class Group:
@@ -28,24 +30,12 @@ class Group:
     def __init__(self, town: Town, program: Program, folder: Path) -> None:
         self.town, self.program, self.folder = town, program, folder
         self.records = list(read_records(town.plain, Reading()))[:80]
-        self.file = folder / "lines"
         self.files = MapFiles.of_folder(town.folder)
 
-    def lines(self) -> list[bytes]:
-        """The lines of the good program."""
-        texts = [record.text() for record in self.records]
-        asked = self.asked(self.program.path)
-        lines = lines_about(asked, self.files, texts, None, self.town.folder)
-        return [
-            one.line(line.answer, line.fault) for one, line in zip(self.records, lines, strict=True)
-        ]
-
-    def write(self, program: Path, patience: float | None = None) -> list[bytes]:
-        """The lines of another one."""
-        with self.file.open("wb") as stream:
-            folder = self.file.parent
-            Isolating(self.asked(program), self.files, patience, stream, folder).write(self.records)
-        return self.file.read_bytes().splitlines(keepends=True)
+    def lines(self, program: Path | None = None, patience: float | None = None) -> list[bytes]:
+        """The lines of the good program, or of another one."""
+        with closing(Processes(self.files, program or self.program.path, patience)) as processes:
+            return list(isolated(processes, ASKED, self.records))
 
     def bad(self, ways: dict[int, str]) -> Path:
         """A program that fails at the records with these numbers of the list."""
@@ -56,9 +46,12 @@ class Group:
         """The reference of a record."""
         return self.records[number].data.partition(b"\t")[2].decode()
 
-    def asked(self, program: Path) -> Asked:
-        """One matching of each."""
-        return Asked(program, "match", ["--page", "1"])
+    def script(self, line: str) -> Path:
+        """A program made of a line of a shell."""
+        script = self.folder / "script"
+        script.write_text(f"#!/bin/sh\n{line}\n")
+        script.chmod(0o755)
+        return script
 
 
 @pytest.fixture
@@ -71,51 +64,41 @@ def with_faults(group: Group, lines: list[bytes], ways: dict[int, str]) -> list[
     found = list(lines)
     for number, way in ways.items():
         fault = "TimedOut" if way in HANGING else "ProgramFailed"
-        found[number] = group.records[number].line(b"null", fault)
+        if way not in GOOD:
+            found[number] = group.records[number].line(b"null", fault)
     return found
 
 
 def test_each_way_to_fail(group: Group) -> None:
     """At the first record, the last one and drawn ones between, all in one group."""
     expected = group.lines()
-    ways = [*FAILING, "hangs"]
+    ways = [*FAILING, *GOOD, *HANGING]
     between = random.Random(5).sample(range(1, 79), len(ways) - 2)
     at = dict(zip([0, 79, *between], ways))
-    assert group.write(group.bad(at), PATIENCE) == with_faults(group, expected, at)
-
-
-@pytest.mark.parametrize("way", HANGING)
-def test_a_record_that_hangs(group: Group, way: str) -> None:
-    group.records = group.records[:3]
-    expected = group.lines()
-    assert group.write(group.bad({1: way}), PATIENCE) == with_faults(group, expected, {1: way})
+    assert group.lines(group.bad(at), PATIENCE) == with_faults(group, expected, at)
 
 
 def test_few_records(group: Group) -> None:
     """One record alone, and all of a few: the program reads the map, so it is the records."""
-    del group.records[3:]
-    for ways in ({0: "exits"}, {0: "exits", 2: "is killed"}, dict.fromkeys(range(3), "no line")):
-        expected = with_faults(group, group.lines(), ways)
-        assert group.write(group.bad(ways)) == expected
-    group.records = group.records[:1]
-    ways = {0: "half a line"}
-    assert group.write(group.bad(ways)) == with_faults(group, [b""], ways)
+    for count in (3, 1):
+        del group.records[count:]
+        ways = dict.fromkeys(range(count), "half a line")
+        assert group.lines(group.bad(ways)) == with_faults(group, [b""] * count, ways)
 
 
 def test_a_program_that_fails_at_each_reference(group: Group) -> None:
     """It isn't started for each of them."""
     bad = group.bad(dict.fromkeys(range(80), "exits"))
-    with pytest.raises(ProgramEnded, match="bad ended with status 3 after 0 lines: is it the"):
-        group.write(bad)
-    assert starts(bad) == 2 + TRIED
-    assert group.file.read_bytes() == b""
+    with pytest.raises(ProgramEnded, match="olr ended with status 3 after 0 answers"):
+        group.lines(bad)
+    assert starts(bad) == 3 + TRIED
 
 
 def test_how_often_the_program_is_started(group: Group) -> None:
-    """For a record of 80: for all, to see that it reads the map and answers one, for each piece, and for each of the piece's records."""
+    """For a record of 80: for all, for it alone, to see that others are answered, and for those behind it."""
     bad = group.bad({41: "exits"})
-    group.write(bad)
-    assert starts(bad) == 3 + PIECES + 80 // PIECES
+    group.lines(bad)
+    assert starts(bad) == 4
 
 
 @pytest.mark.parametrize(
@@ -129,35 +112,20 @@ def test_how_often_the_program_is_started(group: Group) -> None:
         "exec >&-; exec sleep 600",
     ],
 )
-def test_a_program_that_always_fails(group: Group, line: str) -> None:
-    script = group.folder / "script"
-    script.write_text(f"#!/bin/sh\n{line}\n")
-    script.chmod(0o755)
-    error, patience = (TimedOut, 0.5) if "sleep" in line else (ProgramEnded, None)
-    with pytest.raises(error, match="after 0 lines|no answer to what it was asked: is it the"):
-        group.write(script, patience)
-    assert group.file.read_bytes() == b""
-
-
-def test_a_program_that_fails_behind_all_lines(group: Group) -> None:
-    """Its lines may be those that it could write before it failed."""
-    script = group.folder / "script"
-    script.write_text(f'#!/bin/sh\n{group.program.path} "$@"\nexit 3\n')
-    script.chmod(0o755)
-    with pytest.raises(ProgramEnded, match="script ended with status 3 after [0-9]+ lines: is it"):
-        group.write(script)
-    assert group.file.read_bytes() == b""
+def test_a_program_that_always_fails(
+    group: Group, line: str, monkeypatch: pytest.MonkeyPatch
+) -> None:
+    monkeypatch.setattr("olr.asking.threaded.SECONDS_TO_END", 0.2)
+    error, patience = (TimedOut, 0.5) if line == "exec sleep 600" else (ProgramEnded, None)
+    with pytest.raises(error, match="after 0 answers|no answer to what it was asked: is it the"):
+        group.lines(group.script(line), patience)
 
 
 def test_a_program_that_is_killed_once(group: Group) -> None:
     """By somebody: no record has a fault for it."""
-    expected = group.lines()
-    script, once = group.folder / "script", group.folder / "once"
-    script.write_text(
-        f'#!/bin/sh\nmkdir {once} 2>&- && kill -9 $$\nexec {group.program.path} "$@"\n'
-    )
-    script.chmod(0o755)
-    assert group.write(script) == expected and once.exists()
+    once = group.folder / "once"
+    line = f'mkdir {once} 2>&- && kill -9 $$\nexec {group.program.path} "$@"'
+    assert group.lines(group.script(line)) == group.lines() and once.exists()
 
 
 def test_a_program_that_cant_be_started(group: Group) -> None:
@@ -166,7 +134,7 @@ def test_a_program_that_cant_be_started(group: Group) -> None:
         script.write_text(text)
         script.chmod(mode)
         with pytest.raises(ProgramNotFound, match=f"{script} can't be started: "):
-            group.write(script)
+            group.lines(script)
 
 
 def test_lines_are_those_of_the_program(group: Group, program: Program) -> None:

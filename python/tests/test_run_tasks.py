@@ -26,7 +26,7 @@ def test_one_run_of_the_program(
 ) -> None:
     """It answers all groups. The lines are those of one batch, in the parts of their groups."""
     log = bad_program(tmp_path / "logging", program, {})
-    monkeypatch.setattr("olr.running.answering.find_program", lambda: log)
+    monkeypatch.setattr("olr.asking.processes.find_program", lambda _: log)
     groups = begun.groups()
     counts = answer_groups(begun.job, groups)
     assert len(groups) == 11 and starts(log) == 1

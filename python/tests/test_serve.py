@@ -141,7 +141,7 @@ def test_what_a_reference_says(server: Server, program: Program, texts: list[str
 def test_pages_behind_cursors(
     server: Server, program: Program, drawn: Path, texts: list[str]
 ) -> None:
-    """Until there is no more. The next cursor of such a page has the program's mark."""
+    """Until there is no more. No cursor has the mark of the map that the program's own has."""
     text = next(
         text
         for text in texts[:200]
@@ -154,7 +154,8 @@ def test_pages_behind_cursors(
     while after is not None and pages < 6:
         words = by_default("match", text, "--map", drawn, "--page", 2, "--after", after)
         page = server.get(path_of("match", text, page=2, after=after)).body
-        assert page.decode() + "\n" == program.run(*words, "--format", "json").stdout
+        printed = program.run(*words, "--format", "json").stdout
+        assert page.decode() + "\n" == re.sub("@[0-9a-f]{64}", "", printed)
         after, pages = _next(page), pages + 1
     assert pages > 2
     assert server.get(path_of("match", text, after="x")).problem()[:2] == (422, "BadCursor")

@@ -21,7 +21,7 @@ from olr.model.questions import NUMBERS
 from olr.serving.compressing import LEAST, MOST_AT_ONCE, Compressing, is_wanted
 from olr.serving.folder_map import FolderMap
 from olr.serving.front import request_id_of
-from olr.serving.limits import Capacity, Limits
+from olr.serving.limits import Limits
 from olr.serving.store_map import StoreMap
 from servers import Server, path_of, serving, wait_until
 
@@ -246,7 +246,7 @@ def test_files_that_have_changed_are_not_known() -> None:
     """And neither is a store, at which nobody looks."""
 
     async def run() -> None:
-        found = FolderMap(TOP / "examples", Capacity(1, 1), Limits())
+        found = FolderMap(TOP / "examples", 1, Limits())
         assert found.unchanged() is None
         version = found.pool.edition.version = Version("a", "b")
         assert found.unchanged() == version

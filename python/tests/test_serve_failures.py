@@ -12,7 +12,7 @@ import socket
 import threading
 import time
 from collections.abc import Callable, Iterator, Sequence
-from contextlib import contextmanager, suppress
+from contextlib import contextmanager
 from pathlib import Path
 
 from asking import draw_map, draw_references
@@ -99,34 +99,32 @@ def test_a_client_that_stops_reading(
             assert sent < len(records), "all of it was read"
             assert server.memory() - before < 30_000
             assert server.get(path_of("match", GOOD)).status in (200, 422)
-            assert server.figure('olr_processes{state="apart"}') == 1
-        wait_until(lambda: server.figure('olr_processes{state="apart"}') == 0)
+        wait_until(lambda: is_at_rest(server))
+
+
+def is_at_rest(server: Server) -> bool:
+    """Whether nothing is at work, or waits."""
+    working = server.figure('olr_processes{state="working"}')
+    return working == server.figure("olr_waiting_requests") == 0
 
 
 @pytest.mark.parametrize("part", ["nothing", "half", "all"])
 def test_a_client_that_goes(part: str, server: Server, texts: list[str]) -> None:
-    """Its process ends, if it had sent a record."""
+    """What it sent is asked no more."""
     records = "".join(f"{text}\n" for text in whole(texts)).encode()
     with stream_of(server, len(records)) as connection:
         size = {"nothing": 0, "half": len(records) // 2, "all": len(records)}[part]
         connection.sendall(records[:size])
-        wait_until(lambda: server.figure('olr_processes{state="apart"}') == 1 or part != "half")
-    wait_until(lambda: server.figure('olr_processes{state="apart"}') == 0)
-    wait_until(lambda: len(server.programs()) == 1)
+    wait_until(lambda: is_at_rest(server))
 
 
 @pytest.mark.parametrize("what", ["a page", "two pages", "a stream", "a stream and a page"])
 def test_a_client_that_goes_while_its_process_works(
     what: str, program: Program, drawn: Path, tmp_path: Path, texts: list[str]
 ) -> None:
-    """Nothing waits for the process, which would work for long: also where nothing of the client is read meanwhile."""
+    """It is ended, which would work for long: also where nothing of the client is read meanwhile."""
     bad = bad_program(tmp_path / "bad", program, {texts[1]: "hangs"})
-    sleeping = tmp_path / "sleeping"
-    sleeping.write_text(
-        f'#!/bin/sh\nif [ "$1" = match ]; then exec sleep 600; fi\nexec {bad} "$@"\n'
-    )
-    sleeping.chmod(0o755)
-    with serving(sleeping, drawn, tmp_path / "log", "--time-limit", 600) as server:
+    with serving(bad, drawn, tmp_path / "log", "--time-limit", 600) as server:
         path = path_of("match", texts[1], after="0:1")
         page = f"GET {path} HTTP/1.1\r\nHost: 127.0.0.1:{server.port}\r\n\r\n"
         head = STREAM.format(port=server.port)
@@ -134,9 +132,9 @@ def test_a_client_that_goes_while_its_process_works(
         sent = {"a page": page, "two pages": page * 2, "a stream": stream}.get(what, stream + page)
         with socket.create_connection(("127.0.0.1", server.port)) as connection:
             connection.sendall(sent.encode())
-            wait_until(lambda: server.figure('olr_processes{state="apart"}') == 1)
-        wait_until(lambda: server.figure('olr_processes{state="apart"}') == 0)
-        wait_until(lambda: len(server.programs()) == 1)
+            wait_until(lambda: server.figure('olr_processes{state="working"}') == 1)
+        wait_until(lambda: is_at_rest(server))
+        assert server.get(path_of("match", GOOD)).status in (200, 422)
 
 
 def test_a_client_that_sends_half_a_body(
@@ -159,9 +157,8 @@ def test_a_client_that_sends_half_a_body(
 def test_streams_that_come_slowly(
     sent: bytes, program: Program, drawn: Path, tmp_path: Path, texts: list[str]
 ) -> None:
-    """As many as may have a process: they have none while their clients send a part of a record, or have been given all lines. So others that
-    need one don't wait for them, and they go on."""
-    options = ("--workers", 4, "--time-limit", 4)
+    """Others don't wait for them, and they go on."""
+    options = ("--workers", 1, "--time-limit", 4)
     with serving(program.path, drawn, tmp_path / "log", *options) as server:
         streams = [stream_of(server, 20) for _ in range(3)]
         for stream in streams:
@@ -170,7 +167,6 @@ def test_streams_that_come_slowly(
         assert after.status in (200, 422), after
         lines = server.get("/batch/match", "POST", b"CwVG\n", content_type="text/plain")
         assert lines.body.count(b'"fault":"BadLength 3"') == 1
-        wait_until(lambda: server.figure('olr_processes{state="apart"}') == 0)
         for stream in streams:
             stream.sendall((sent + b"G\nCwVG\nCwVG\nCwVG\n")[len(sent) : 20])
             said = b""
@@ -311,25 +307,16 @@ def test_a_program_that_hangs_in_a_stream(
 def test_requests_wait_no_longer_than_they_may(
     program: Program, drawn: Path, tmp_path: Path, texts: list[str]
 ) -> None:
-    """Here a stream has the only process."""
-    options = ("--workers", 1, "--time-limit", 2)
-    with serving(program.path, drawn, tmp_path / "log", *options) as server:
-        with stream_of(server, 10_000) as connection:
-            connection.sendall(b"k\tCwVG\n")
-            wait_until(lambda: server.figure('olr_processes{state="apart"}') == 1)
-            is_over = threading.Event()
-
-            def send() -> None:
-                while not is_over.wait(0.3):
-                    connection.sendall(b"k\tCwVG\n")
-
-            sender = threading.Thread(target=send)
-            sender.start()
-            reply = server.get(path_of("match", GOOD))
-            is_over.set()
-            sender.join()
-        assert reply.problem()[:2] == (503, "Busy") and reply.headers["retry-after"] == "2"
-        assert server.get(path_of("match", GOOD)).status in (200, 422)
+    """Here the only process answers five a second."""
+    bad = bad_program(tmp_path / "bad", program, {texts[1]: "is slow"})
+    options = ("--workers", 1, "--time-limit", 1)
+    with serving(bad, drawn, tmp_path / "log", *options) as server:
+        replies = asyncio.run(ask_all(server, [path_of("match", texts[1])] * 20, 20))
+        busy = [reply for reply in replies if reply.status == 503]
+        assert len(replies) - len(busy) >= 4 and len(busy) >= 4
+        assert {reply.status for reply in replies} <= {200, 422, 503}
+        assert {reply.problem()[1] for reply in busy} == {"Busy"}
+        assert {reply.headers["retry-after"] for reply in busy} == {"2"}
 
 
 def replace_map(folder: Path, source: Path) -> None:
@@ -386,18 +373,16 @@ def test_files_that_are_refused(server: Server, folder: Path, texts: list[str]) 
 def test_files_that_change_without_a_signal(
     server: Server, folder: Path, other: Path, texts: list[str]
 ) -> None:
-    """What runs goes on with what it has read, and nothing else is started."""
+    """What runs answers whatever is asked by what it has read, and nothing else is started."""
     text = whole(texts)[0]
-    expected = server.get(path_of("match", text))
+    paths = [path_of("match", text), path_of("why", text, radius=7)]
+    expected = [server.get(path).body for path in paths]
     replace_map(folder, other)
     wait_until(lambda: "SIGHUP reads them anew" in server.log())
-    assert server.get(path_of("match", text)).body == expected.body
-    for path in (path_of("why", text), path_of("match", text, after="0:1.1")):
-        refused = server.get(path)
-        assert refused.problem()[:2] == (503, "MapRefused")
-        assert str(folder) not in refused.body.decode()
-    stream = server.get("/batch/match", "POST", b"CwVG\n", Content_Type="text/plain")
-    assert stream.problem()[:2] == (503, "MapRefused")
+    assert [server.get(path).body for path in paths] == expected
+    refused = server.get(path_of("scene", text))
+    assert refused.problem()[:2] == (503, "MapRefused")
+    assert str(folder) not in refused.body.decode()
     about = health_of(server)
     assert about["changed"] and about["able"]
     assert server.log().count("have changed") == server.log().count("\n") == 1
@@ -436,7 +421,7 @@ def test_it_ends_although_a_stream_runs(server: Server) -> None:
     """Whose client sends nothing more: within the seconds that are stated."""
     with stream_of(server, 10_000) as connection:
         connection.sendall(b"k\tCwVG\n")
-        wait_until(lambda: server.figure('olr_processes{state="apart"}') == 1)
+        assert connection.recv(1000).startswith(b"HTTP/1.1 200")
         programs = server.programs()
         server.signal(signal.SIGTERM)
         assert server.process.wait(20) == 0
@@ -445,26 +430,13 @@ def test_it_ends_although_a_stream_runs(server: Server) -> None:
 
 
 def test_it_is_killed(program: Program, drawn: Path, tmp_path: Path, texts: list[str]) -> None:
-    """No process is left: neither one whose input ends, nor one of a stream, nor one that works and doesn't look at its input."""
+    """No process is left: neither one whose input ends, nor one that works and doesn't look at its input."""
     bad = bad_program(tmp_path / "bad", program, {texts[2]: "hangs"})
-    with serving(bad, drawn, tmp_path / "log", "--workers", 3) as server:
+    with serving(bad, drawn, tmp_path / "log", "--workers", 2) as server:
         with stream_of(server, 10_000) as connection:
-            connection.sendall(f"{texts[2]}\n".encode())
-            for what in ("match", "places"):
-                server.get(path_of(what, texts[1]))
-            wait_until(lambda: server.figure('olr_processes{state="apart"}') == 1)
-
-            def ask() -> None:
-                with suppress(http.client.RemoteDisconnected):
-                    server.get(path_of("match", texts[2]))
-
-            asking = threading.Thread(target=ask)
-            asking.start()
-            wait_until(lambda: server.figure('olr_processes{state="working"}') == 1)
-            # (a stream is counted before its process is begun)
-            wait_until(lambda: len(server.programs()) == 3)
+            connection.sendall(f"{texts[2]}\n".encode() * 5)
+            wait_until(lambda: len(server.programs()) == 2)
             programs = server.programs()
             server.process.kill()
             server.process.wait()
             wait_until(lambda: not any(map(is_running, programs)))
-            asking.join()

@@ -18,22 +18,22 @@ def limited(files: int) -> Begin:
 
 def test_few_files_for_several_maps(program: Program, tmp_path: Path) -> None:
     """Each has as many processes."""
-    with pytest.raises(AssertionError, match="needs 232 with 16 processes"):
+    with pytest.raises(AssertionError, match="needs 160 with 4 processes"):
         with serving(
             program.path,
             f"a={EXAMPLES}",
             tmp_path / "log",
             "--map",
             f"b={EXAMPLES}",
-            begin=limited(208),
+            begin=limited(158),
         ):
             pass
 
 
-@pytest.mark.parametrize("files, said", [(184, "needs 188"), (208, "there are 24 connections")])
+@pytest.mark.parametrize("files, said", [(148, "needs 152"), (172, "there are 24 connections")])
 def test_few_files(files: int, said: str, program: Program, tmp_path: Path) -> None:
     """It says how many connections that leaves, and answers on them; with too few it doesn't start."""
-    if files < 188:
+    if files < 152:
         with pytest.raises(AssertionError, match=said):
             with serving(program.path, EXAMPLES, tmp_path / "log", begin=limited(files)):
                 pass

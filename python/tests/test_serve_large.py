@@ -23,10 +23,10 @@ def writing_program(file: Path) -> Path:
         r"""#!/usr/bin/python3 -IS
 import sys
 for number, record in enumerate(sys.stdin.buffer, 1):
-    text = record.decode().split("\t")[1].strip()
+    text = record.decode().split(" -- ")[1].strip()
     end = '"key":"%d","record":%d}' % (number, number)
     if text.isdigit():
-        print('{"answer":"' + "x" * (int(text) << 10) + '","fault":null,' + end, flush=True)
+        print('{"answer":{"":"' + "x" * (int(text) << 10) + '"},"fault":null,' + end, flush=True)
     else:
         print('{"answer":null,"fault":"Empty",' + end, flush=True)
 """
@@ -47,7 +47,7 @@ def test_an_answer_that_is_too_large(server: Server) -> None:
     """It isn't held: its process is ended, and the next one answers."""
     assert server.get("/match?ref=40000").problem()[:2] == (422, "AnswerTooLarge")
     assert server.get("/match?ref=x").problem()[:2] == (422, "Empty")
-    assert len(server.get("/match?ref=20000").body) == (20_000 << 10) + 2
+    assert len(server.get("/match?ref=20000").body) == (20_000 << 10) + 7
     one = server.get("/batch/match", "POST", b"40000\n", content_type="text/plain")
     assert one.problem()[:2] == (422, "AnswerTooLarge")
     with pytest.raises(http.client.IncompleteRead) as caught:

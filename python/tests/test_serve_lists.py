@@ -288,7 +288,7 @@ def test_stop_and_go_on(browser: Browser, program: Program, folder: Path, tmp_pa
         assert "1 of 3 answered" in page.text("#progress") and page.count("#go-on") == 0
         page.browser.click("#stop")
         assert "Stopped" in page.text("#progress") and page.count("#stop") == 0
-        wait_until(lambda: server.figure('olr_processes{state="apart"}') == 0)
+        wait_until(lambda: server.figure('olr_processes{state="working"}') == 0)
         Path(f"{hanging}.good").touch()
         page.browser.click("#go-on")
         page.wait("document.querySelector('#list').dataset.state === 'done'")

@@ -31,7 +31,7 @@ from olr.serving.ground import Ground
 from olr.serving.limits import Limits
 from olr.serving.makers import Makers
 from olr.serving.problems import Problem
-from olr.serving.queries import kind_of
+from olr.serving.queries import asked_of
 from olr.serving.tasks import FeaturesTask, JudgedBy, MapVersion
 from servers import children_of, is_running, path_of, serving, started, wait_until
 from test_run_disks import Disk, disk
@@ -79,7 +79,7 @@ def map(drawn: Path) -> MapVersion:
 
 def task_of(answer: bytes = PAGE, candidates: "bytes | Fault" = Fault("Empty")) -> FeaturesTask:
     """GeoJSON of an answer to `match`."""
-    return FeaturesTask(JudgedBy(kind_of("match", {}, 10), None), "x", answer, candidates)
+    return FeaturesTask(JudgedBy(asked_of("match", {}, 10), None), "x", answer, candidates)
 
 
 def with_makers(run: "Callable[[Makers], Any]") -> Any:
@@ -98,7 +98,7 @@ def with_makers(run: "Callable[[Makers], Any]") -> Any:
 
 async def made_of(asked: Makers, map: MapVersion, task: FeaturesTask) -> bytes:
     """The answer to a task."""
-    with await asked.made(map, task, lambda: False) as file:
+    with await asked.made(map, task) as file:
         return file.read()
 
 

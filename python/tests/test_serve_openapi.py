@@ -225,7 +225,7 @@ def test_files_that_have_changed(program: Program, described: Document, tmp_path
     with serving(program.path, folder, tmp_path / "log") as server:
         (folder / "lines.csv").write_text("")
         wait_until(lambda: server.get("/ready").status == 503)
-        for path in ("/ready", path_of("match", FAR, after="0:1")):
+        for path in ("/ready", path_of("scene", FAR)):
             assert described.status_of(path, "GET", server.get(path)) == 503
 
 

@@ -257,9 +257,7 @@ def test_what_takes_too_long(
 ) -> None:
     """The process hangs at a reference: the page says so, and asks once more."""
     hanging = bad_program(tmp_path / "olr", program, {UNMATCHED: "hangs"})
-    # With more processes the first one would still be there, and hang too.
-    options = "--time-limit", 1, "--processes", 2
-    with serving(hanging, folder, tmp_path / "log", *options) as server:
+    with serving(hanging, folder, tmp_path / "log", "--time-limit", 1) as server:
         page = Page(browser, server)
         page.open(f"{AS_PROGRAM}&ref={quote(UNMATCHED)}")
         assert "It took too long: the program took longer" in page.text("#problem")

@@ -17,10 +17,10 @@ from olr.serving.allowed import Allowed, allowed_for, fields_of, require_allowed
 from olr.serving.edition import Edition
 from olr.serving.folder_map import FolderMap
 from olr.serving.front import Front
-from olr.serving.limits import MOST_BODIES, MOST_REQUESTS, Capacity, Limits
+from olr.serving.limits import MOST_BODIES, MOST_REQUESTS, Limits
 from olr.serving.meters import Meters
 from olr.serving.problems import Problem, of_error, of_status
-from olr.serving.queries import kind_of, options_of, question_of
+from olr.serving.queries import asked_of, options_of, question_of
 from olr.serving.served import Served
 
 ALLOWED = allowed_for("127.0.0.1", 8000, ["olr.example"], ["https://Maps.example"])
@@ -54,25 +54,25 @@ def test_queries_that_arent_understood(query: bytes) -> None:
 
 def test_how_far_is_looked() -> None:
     """By default no farther than the server allows, and no farther if that is asked for."""
-    assert kind_of("places", {}, 500).numbers()["look"] == 500
-    assert kind_of("places", {}, 5000).numbers()["look"] == 1000
-    assert kind_of("places", {"look": "500"}, 500).numbers()["look"] == 500
-    said = refused(lambda: kind_of("places", {"look": "501"}, 500))
+    assert asked_of("places", {}, 500).numbers()["look"] == 500
+    assert asked_of("places", {}, 5000).numbers()["look"] == 1000
+    assert asked_of("places", {"look": "500"}, 500).numbers()["look"] == 500
+    said = refused(lambda: asked_of("places", {"look": "501"}, 500))
     assert said[0] == 400 and said[2] == "look is 500 at most on this server"
 
 
 @pytest.mark.parametrize("value", ["", "0", "1001", "+5", " 5", "5.0", "٣", "0x5", "00000005"])
 def test_numbers_that_arent_in_their_range(value: str) -> None:
     """A number has seven digits at most."""
-    said = refused(lambda: kind_of("match", {"radius": value}, 500))
+    said = refused(lambda: asked_of("match", {"radius": value}, 500))
     assert said == (400, "BadRequest", "radius is a whole number of metres from 1 to 1000")
 
 
 def test_numbers_by_profile() -> None:
     """Those that are given win."""
-    assert kind_of("match", {"profile": "feed"}, 500).numbers()["radius"] == 75
-    assert kind_of("match", {"profile": "feed", "radius": "9"}, 500).numbers()["radius"] == 9
-    assert kind_of("match", {"radius": "0000009"}, 500) == kind_of("match", {"radius": "9"}, 500)
+    assert asked_of("match", {"profile": "feed"}, 500).numbers()["radius"] == 75
+    assert asked_of("match", {"profile": "feed", "radius": "9"}, 500).numbers()["radius"] == 9
+    assert asked_of("match", {"radius": "0000009"}, 500) == asked_of("match", {"radius": "9"}, 500)
 
 
 def test_cursors() -> None:
@@ -139,7 +139,7 @@ class FakeMap:
 
     def sizes(self) -> dict[str, int]:
         """Of its processes."""
-        return {"working": 1, "idle": 2, "apart": 0, "waiting": 5}
+        return {"working": 1, "idle": 2, "waiting": 5}
 
     def starts(self) -> int:
         """So many were started."""
@@ -401,7 +401,7 @@ def test_health_while_files_dont_answer(monkeypatch: pytest.MonkeyPatch) -> None
     monkeypatch.setattr(Edition, "found", never)
 
     async def run() -> dict[str, Any]:
-        served = FolderMap(TOP / "examples", Capacity(1, 1), Limits())
+        served = FolderMap(TOP / "examples", 1, Limits())
         return (await served.health())[1]
 
     assert run_within(run())["changed"] is False

@@ -8,18 +8,14 @@ from contextlib import AsyncExitStack
 from pathlib import Path
 
 from asking import draw_map
-from olr.asking.processes import Kind
+from olr.asking.exchange import UnknownWords, record_about
 from olr.errors import TimedOut
 from olr.serving import process
 from olr.serving.edition import Edition
-from olr.serving.folder_map import FIRST, FolderMap
-from olr.serving.limits import Capacity, Limits
+from olr.serving.limits import Limits
 from olr.serving.pool import Pool
 from olr.serving.problems import Problem
-from olr.serving.queries import Question, kind_of
 from olr.serving.rooms import ABREAST, Room
-
-OTHER = kind_of("places", {}, 10_000)
 
 
 @pytest.fixture(scope="module")
@@ -41,10 +37,11 @@ def slow_program(file: Path, before: str = "") -> Path:
 import os, subprocess, sys, time
 {before}
 for number, record in enumerate(sys.stdin.buffer, 1):
-    text = record.decode().split("\\t")[1].strip()
+    text = record.decode().split(" -- ")[1].strip()
     if text.isdigit():
         time.sleep(int(text) / 1000)
-    print('{{"answer":"%s","fault":null,"key":"%d","record":%d}}' % (text, number, number), flush=True)
+    answer, fault = ("null", '"Words x"') if text == "unknown" else ('{{"is":"%s"}}' % text, "null")
+    print('{{"answer":%s,"fault":%s,"key":"%d","record":%d}}' % (answer, fault, number, number), flush=True)
 """
     )
     file.chmod(0o755)
@@ -53,16 +50,20 @@ for number, record in enumerate(sys.stdin.buffer, 1):
 
 def pool_of(folder: Path, program: Path, workers: int, seconds: float = 30) -> Pool:
     """A pool."""
-    capacity, defaults = Capacity(workers, workers), {FIRST, OTHER}
-    return Pool(Edition(folder, program), capacity, Limits(time=seconds), defaults=defaults)
+    return Pool(Edition(folder, program), workers, Limits(time=seconds))
 
 
-async def asked(pool: Pool, kind: Kind, text: str) -> "bytes | Exception":
-    """What the pool answers, or raises."""
+async def asked(pool: Pool, text: str) -> "bytes | Exception":
+    """What a pool answers, or why it doesn't."""
     try:
-        return (await pool.answer(kind, text.encode(), lambda: False)).json
-    except Exception as error:
+        return (await pool.ask(record_about(["match"], text.encode()))).json
+    except (TimedOut, UnknownWords, Problem) as error:
         return error
+
+
+def said(text: str) -> bytes:
+    """What the program answers."""
+    return b'{"is":"%b"}' % text.encode()
 
 
 async def until(is_so: Callable[[], bool]) -> None:
@@ -73,37 +74,19 @@ async def until(is_so: Callable[[], bool]) -> None:
 
 
 def test_what_waits_while_the_files_are_read_anew(folder: Path, tmp_path: Path) -> None:
-    """It is answered, although no other request of its kind comes."""
+    """It is answered, and nothing is lost."""
     program = slow_program(tmp_path / "slow")
 
     async def run() -> None:
-        pool = pool_of(folder, program, 2)
-        await pool.open(FIRST)
-        tasks = [asyncio.create_task(asked(pool, FIRST, "100")) for _ in range(20)]
-        await until(lambda: pool.sizes()["working"] == 2 and pool.sizes()["waiting"] > 8)
-        await pool.renew(Edition(folder, program), FIRST)
-        async with asyncio.timeout(10):
-            assert await asyncio.gather(*tasks) == [b'"100"'] * 20
-        await pool.close()
-
-    asyncio.run(run())
-
-
-def test_a_process_that_reads_the_old_files_too_late(folder: Path, tmp_path: Path) -> None:
-    """Its requests are answered on the new ones."""
-    slow = 'if "places" in sys.argv and not os.path.exists(__file__ + ".again"): open(__file__ + ".again", "w"); time.sleep(1.5)'
-    program = slow_program(tmp_path / "slow", slow)
-
-    async def run() -> None:
         pool = pool_of(folder, program, 3)
-        await pool.open(FIRST)
-        waiting = asyncio.create_task(asked(pool, OTHER, "x"))
-        await until((tmp_path / "slow.again").exists)
+        await pool.open()
+        tasks = [asyncio.create_task(asked(pool, "100")) for _ in range(20)]
+        await until(lambda: pool.sizes()["working"] == 2 and pool.sizes()["waiting"] > 8)
         with (folder / "nodes.csv").open("a") as nodes:
             nodes.write("999999999,1,1\n")
-        await pool.renew(Edition(folder, program), FIRST)
+        await pool.renew(Edition(folder, program))
         async with asyncio.timeout(10):
-            assert await waiting == b'"x"'
+            assert await asyncio.gather(*tasks) == [said("100")] * 20
         assert pool.trouble is None
         await pool.close()
 
@@ -112,20 +95,34 @@ def test_a_process_that_reads_the_old_files_too_late(folder: Path, tmp_path: Pat
 
 def test_a_process_that_lingers_when_its_time_is_over(folder: Path, tmp_path: Path) -> None:
     """The request that it worked at is refused, and those behind it aren't: here another process keeps its output open for a while."""
-    program = slow_program(
-        tmp_path / "slow", 'subprocess.Popen(["sleep", "3"], start_new_session=True)'
-    )
+    lingering = 'subprocess.Popen(["sleep", "3"], start_new_session=True)'
+    program = slow_program(tmp_path / "slow", lingering)
 
     async def run() -> None:
         pool = pool_of(folder, program, 1, 2)
-        await pool.open(FIRST)
+        await pool.open()
+        (lingering,) = pool._there
         watching = asyncio.create_task(pool.watch())
-        first, *others = await asyncio.gather(
-            *(asked(pool, FIRST, text) for text in ("60000", "1", "2"))
-        )
+        first, *others = await asyncio.gather(*(asked(pool, text) for text in ("60000", "1", "2")))
         assert isinstance(first, TimedOut)
-        assert others == [b'"1"', b'"2"']
+        assert others == [said("1"), said("2")] and lingering not in pool._there
         watching.cancel()
+        await lingering.ended()
+        await pool.close()
+
+    asyncio.run(run())
+
+
+def test_words_that_the_program_doesnt_know(folder: Path, tmp_path: Path) -> None:
+    """They are asked once. What waits behind them is answered by another process."""
+    program = slow_program(tmp_path / "slow")
+
+    async def run() -> None:
+        pool = pool_of(folder, program, 1)
+        await pool.open()
+        first, second = await asyncio.gather(asked(pool, "unknown"), asked(pool, "1"))
+        assert isinstance(first, UnknownWords) and second == said("1")
+        assert pool.restarts == {"ended": 1}
         await pool.close()
 
     asyncio.run(run())
@@ -135,14 +132,20 @@ def test_a_map_that_is_never_read(
     folder: Path, tmp_path: Path, monkeypatch: pytest.MonkeyPatch
 ) -> None:
     """Requests are refused when the time for it is over."""
-    program = slow_program(tmp_path / "slow", 'if "places" in sys.argv: time.sleep(600)')
+    slow = 'if not os.path.exists(__file__ + ".fast"): time.sleep(600)'
+    program = slow_program(tmp_path / "slow", slow)
+    (tmp_path / "slow.fast").touch()
 
     async def run() -> None:
         pool = pool_of(folder, program, 2)
-        await pool.open(FIRST)
+        await pool.open()
+        (tmp_path / "slow.fast").unlink()
         monkeypatch.setattr(process, "SECONDS_TO_READ", 0.3)
+        (first,) = pool._there
+        pool._end(first)
+        await first.ended()
         async with asyncio.timeout(10):
-            found = await asyncio.gather(*(asked(pool, OTHER, "x") for _ in range(3)))
+            found = await asyncio.gather(*(asked(pool, "x") for _ in range(3)))
         assert all(isinstance(error, TimedOut) for error in found)
         assert pool.starts == 2
         await pool.close()
@@ -158,45 +161,31 @@ def test_files_that_dont_answer(
 
     async def run() -> None:
         pool = pool_of(folder, program, 1, 2)
-        await pool.open(FIRST)
+        await pool.open()
+        (working,) = pool._there
         monkeypatch.setattr(pool.edition, "found", asyncio.Event().wait)
         watching = asyncio.create_task(pool.watch())
         async with asyncio.timeout(10):
-            assert isinstance(await asked(pool, FIRST, "60000"), TimedOut)
+            assert isinstance(await asked(pool, "60000"), TimedOut)
         watching.cancel()
+        await working.ended()
         await pool.close()
 
     asyncio.run(run())
 
 
-def test_a_page_that_nobody_waits_for(
-    folder: Path, tmp_path: Path, monkeypatch: pytest.MonkeyPatch
-) -> None:
-    """When it is its turn it isn't made."""
-    monkeypatch.setenv("OLR_PROGRAM", str(slow_program(tmp_path / "slow")))
-
-    async def run() -> None:
-        served = FolderMap(folder, Capacity(1, 1), Limits())
-        with pytest.raises(Problem, match="nobody"):
-            await served.answer(Question(FIRST, b"x", "0"), lambda: True)
-        assert served.sizes()["apart"] == 0
-        await served.close()
-
-    asyncio.run(run())
-
-
 def test_room_for_some_at_once() -> None:
-    """Others wait, no longer than they may; and what nobody waits for gets none."""
+    """Others wait, no longer than they may."""
 
     async def run() -> None:
         room = Room(0.1)
         async with AsyncExitStack() as taken:
             for _ in range(ABREAST):
-                await taken.enter_async_context(room.place(lambda: False))
+                await taken.enter_async_context(room.place())
             with pytest.raises(Problem, match="too many"):
-                await taken.enter_async_context(room.place(lambda: False))
+                await taken.enter_async_context(room.place())
         for _ in range(ABREAST + 1):
-            with pytest.raises(Problem, match="nobody"):
-                await room.place(lambda: True).__aenter__()
+            async with room.place():
+                pass
 
     asyncio.run(run())

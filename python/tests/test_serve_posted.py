@@ -1,28 +1,24 @@
 """Questions to `olr-tools serve` as JSON: of one reference those of the URL, of a few those of `olr batch`, and of both as GeoJSON."""
 
-import asyncio
 import json
 import pytest
 from collections.abc import Iterator
 from pathlib import Path
-from typing import Any, cast
+from typing import Any
 
 import olr
 from asking import draw_map, draw_references
 from conftest import REFERENCE, TOP, Program, Tools
-from fake_pool import run_within
-from olr.asking.files import Version
 from olr.asking.records import Answered
-from olr.errors import MapRefused, ProgramEnded
+from olr.errors import ProgramEnded
 from olr.model.questions import NUMBERS
 from olr.serving.feature_texts import lines_of
 from olr.serving.features import OF_LINES
 from olr.serving.limits import MIB
-from olr.serving.posted import MOST_BYTES, MOST_REFS, answered_one_by_one, posted_of, records_of
+from olr.serving.posted import MOST_BYTES, MOST_REFS, posted_of, records_of
 from olr.serving.problems import Problem
-from olr.serving.queries import kind_of
-from olr.serving.rows import MOST_LINES, lots_of
-from olr.serving.served import Known, Served
+from olr.serving.queries import asked_of
+from olr.serving.rows import lots_of
 from olr.serving.tasks import JudgedBy
 from servers import Reply, Server, expected_of, path_of, serving
 
@@ -204,32 +200,6 @@ def test_a_body_that_breaks_off() -> None:
                 posted_of(body[:end])
 
 
-def test_lines_are_of_one_version_of_the_map() -> None:
-    """And they are asked for one by one, as they are taken."""
-    asked = []
-
-    class Map:
-        """A map that becomes another one."""
-
-        async def answer(self, question: Any, _: Any) -> Known:
-            """The version is another one at the third question."""
-            asked.append(question.text)
-            return Known(b"{}", Version("a" if len(asked) < 3 else "b", None))
-
-    async def run() -> None:
-        records = records_of(["x", "y", "z"])
-        kind = kind_of("match", {}, 10)
-        found = answered_one_by_one(cast(Served, Map()), kind, records, lambda: False)
-        assert (await anext(found))[0].record.number == 1
-        await asyncio.sleep(0)
-        assert asked == [b"x"]
-        assert (await anext(found))[0].answer == b"{}"
-        with pytest.raises(MapRefused):
-            await anext(found)
-
-    run_within(run())
-
-
 def answered(*sizes: int) -> list[Answered]:
     """Answers of so many bytes."""
     records = records_of(["x"] * len(sizes))
@@ -240,8 +210,7 @@ def answered(*sizes: int) -> list[Answered]:
     "sizes, lots",
     [
         ([], []),
-        ([1] * MOST_LINES, [MOST_LINES]),
-        ([1] * (MOST_LINES + 1), [MOST_LINES, 1]),
+        ([1, 1], [2]),
         ([MIB, 1], [1, 1]),
         ([1, MIB - 1, 1], [2, 1]),
         ([5 * MIB, 5 * MIB], [1, 1]),
@@ -249,7 +218,7 @@ def answered(*sizes: int) -> list[Answered]:
     ],
 )
 def test_lots(sizes: list[int], lots: list[int]) -> None:
-    """So many lines, and a MiB of answers, unless one alone has more."""
+    """Of a MiB of answers, unless one alone has more."""
     found = list(lots_of(answered(*sizes)))
     assert [len(lot) for lot in found] == lots
     assert [one for lot in found for one in lot] == answered(*sizes)
@@ -258,7 +227,7 @@ def test_lots(sizes: list[int], lots: list[int]) -> None:
 def test_an_answer_that_is_too_large_for_features() -> None:
     """It isn't read: its record has a fault."""
     network = olr.Network.read(TOP / "examples")
-    judged_by = JudgedBy(kind_of("match", {}, 10), None)
+    judged_by = JudgedBy(asked_of("match", {}, 10), None)
     (feature,) = features_in(lines_of(answered(MIB + 1), network, judged_by))
     assert feature["properties"]["fault"] == "AnswerTooLarge" and feature["geometry"] is None
     with pytest.raises(ProgramEnded, match="what is no answer"):

@@ -167,10 +167,10 @@ def test_a_client_that_stops_reading(program: Program, town: Town, tmp_path: Pat
             assert sent < len(records), "all of it was read"
             assert server.memory() - before < 30_000
             assert server.get(f"/match?ref={REFERENCE}").status in (200, 422)
-        wait_until(lambda: server.figure('olr_processes{state="apart"}') == 0)
+        wait_until(lambda: server.figure('olr_processes{state="working"}') == 0)
 
 
-WAYS = ("exits", "ends", "no line", "two lines", "another number", "another key", "an empty line")
+WAYS = ("exits", "ends", "no line", "another number", "another key", "an empty line")
 """What the program does at a reference."""
 
 
@@ -188,7 +188,7 @@ class Failing(NamedTuple):
 def failing(
     program: Program, town: Town, tmp_path_factory: pytest.TempPathFactory
 ) -> Iterator[Failing]:
-    """It starts another process for each list, so one server is enough for all ways."""
+    """It starts another process where one ended, so one server is enough for all ways."""
     folder = tmp_path_factory.mktemp("failing")
     lines = town.plain.read_text().splitlines()[1 : 1 + 4 * len(WAYS)]
     texts = {
@@ -199,10 +199,9 @@ def failing(
         way: "".join(f"{number}\t{text}\n" for number, text in enumerate(texts[way])).encode()
         for way in WAYS
     }
-    with serving(bad, town.folder, folder / "log") as server:
-        Path(f"{bad}.good").touch()
+    with serving(program.path, town.folder, folder / "good") as server:
         good = {way: rows_of(server, body) for way, body in bodies.items()}
-        Path(f"{bad}.good").unlink()
+    with serving(bad, town.folder, folder / "log") as server:
         yield Failing(server, bodies, good)
         assert "Traceback" not in server.log()
 
@@ -229,7 +228,7 @@ def test_a_program_that_hangs(program: Program, town: Town, tmp_path: Path) -> N
     with serving(bad, town.folder, tmp_path / "log", "--time-limit", 2) as server:
         refused = server.get("/rows", "POST", body, **LINES)
         assert refused.problem()[:2] == (504, "TimedOut")
-        wait_until(lambda: server.figure('olr_processes{state="apart"}') == 0)
+        wait_until(lambda: server.figure('olr_processes{state="working"}') == 0)
 
 
 def test_a_confidence_of_ones_own(

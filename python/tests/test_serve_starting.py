@@ -37,7 +37,7 @@ def test_a_signal_while_the_map_is_read(program: Program, drawn: Path, tmp_path:
     file = tmp_path / "program"
     file.write_text(
         f"""#!/bin/sh
-if [ "$1" = batch ] && mkdir "$0.told" 2>/dev/null; then kill -HUP $PPID; sleep 0.3; fi
+if [ "$1" = answer ] && mkdir "$0.told" 2>/dev/null; then kill -HUP $PPID; sleep 0.3; fi
 exec {program.path} "$@"
 """
     )

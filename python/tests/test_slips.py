@@ -132,11 +132,6 @@ WORDS = [
         "an address begins so",
     ),
     Slip(
-        "serve --map town --workers 9 --processes 2",
-        "--processes is 2",
-        "fewer than the 9 of --workers",
-    ),
-    Slip(
         "serve --map town --allow-origin maps.example",
         "'maps.example' isn't an origin",
         "such as https://maps.example",

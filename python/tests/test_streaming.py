@@ -3,50 +3,37 @@
 import asyncio
 import gc
 import pytest
-from collections.abc import AsyncGenerator, AsyncIterator, Callable, Sequence
-from contextlib import asynccontextmanager
+from collections.abc import AsyncGenerator, Callable, Sequence
+from contextlib import aclosing
 from pathlib import Path
-from typing import Any, cast
+from typing import Any
 
 from conftest import Program
 from fake_pool import FakeClock, run_within, turns
 from olr.asking.files import Version
-from olr.asking.processes import Kind
+from olr.asking.exchange import Asked
 from olr.asking.records import Record, Splitter
-from olr.errors import ProgramEnded
+from olr.errors import MapRefused, ProgramEnded
 from olr.regions.making import make_store_of_folder
-from olr.serving import bodies
+from olr.serving.bodies import Records, in_order
 from olr.serving.connections import Pace
 from olr.serving.folder_map import FolderMap
-from olr.serving.limits import Capacity, Limits
+from olr.serving.edition import Edition
+from olr.serving.limits import Limits
 from olr.serving.problems import Problem
-from olr.serving.queries import kind_of
-from olr.serving.served import IsGone, Served
+from olr.serving.process import Answer
+from olr.serving.queries import asked_of
+from olr.serving.served import Served
 from olr.serving.store_map import StoreMap
 from olr.serving.streaming import Lines, Streaming
 from stores import folder_of
 
-MATCH = kind_of("match", {}, 10_000)
+MATCH = asked_of("match", {}, 10_000)
 LONG = 65_536
 """Bytes of the longest record (docs/specification/batch.md)."""
 
 
-class FakeMap:
-    """A map with room for everybody."""
-
-    @asynccontextmanager
-    async def place(self, _: IsGone) -> AsyncIterator[None]:
-        """Room for a process."""
-        yield
-
-    def version(self) -> None:
-        """There is one alone."""
-
-
-Records = AsyncIterator[list[Record]]
-
-
-async def echoed(_: Kind, body: Records, __: IsGone) -> AsyncGenerator[bytes, None]:
+async def echoed(_: Asked, body: Records) -> AsyncGenerator[bytes, None]:
     """What came is sent back when all of it has come."""
     data = [record.data async for records in body for record in records]
     yield b"".join(data)
@@ -66,7 +53,7 @@ class Client:
         named |= {name.lower().replace("_", "-"): it for name, it in fields.items()}
         self.scope: dict[str, Any] = {"type": "http", "method": "POST", "query_string": b""}
         self.scope["headers"] = [(name.encode(), it.encode()) for name, it in named.items()]
-        self.scope |= {"is_gone": lambda: self.is_aborted, "abort": self.abort}
+        self.scope["abort"] = self.abort
         self.scope["pace"] = Pace(30)
 
     def abort(self) -> None:
@@ -87,7 +74,7 @@ class Client:
 
     async def ask(self, lines: Lines = echoed, **limits: Any) -> tuple[int, bytes]:
         """The status and the body of what is answered; the status 0 if nothing is."""
-        streaming = Streaming(cast(Served, FakeMap()), Limits(**limits), "match", lines)
+        streaming = Streaming(Limits(**limits), "match", lines)
         try:
             await streaming(self.scope, self.receive, self.send)
         except Problem as problem:
@@ -132,7 +119,7 @@ def test_a_client_that_goes() -> None:
     assert run_within(Client([b"x", b"y"], is_whole=False).ask()) == (0, b"")
 
 
-async def failing(_: Kind, body: Records, __: IsGone) -> AsyncGenerator[bytes, None]:
+async def failing(_: Asked, body: Records) -> AsyncGenerator[bytes, None]:
     """A line for each record, but for the last one."""
     async for records in body:
         for record in records:
@@ -150,29 +137,7 @@ def test_an_answer_that_fails() -> None:
     assert client.sent[-1] == {"type": "http.response.body", "body": b"x", "more_body": True}
 
 
-class Counted(FakeMap):
-    """A map that tells how many processes are taken."""
-
-    def __init__(self) -> None:
-        self.there = self.taken = 0
-        self.now: Version | None = None
-
-    @asynccontextmanager
-    async def place(self, _: IsGone) -> AsyncIterator[None]:
-        """Room for a process."""
-        self.there += 1
-        self.taken += 1
-        try:
-            yield
-        finally:
-            self.there -= 1
-
-    def version(self) -> Any:
-        """The one that is there now."""
-        return self.now
-
-
-async def numbered(_: Kind, body: Records, __: IsGone) -> AsyncGenerator[bytes, None]:
+async def numbered(_: Asked, body: Records) -> AsyncGenerator[bytes, None]:
     """A line for each record, with its number."""
     async for records in body:
         yield b"".join(b"%d\n" % record.number for record in records)
@@ -182,9 +147,9 @@ class Stream:
     """A stream whose client sends when a test does."""
 
     def __init__(self, lines: Lines = numbered) -> None:
-        self.served, self.client = Counted(), Client([])
+        self.client = Client([])
         self.pieces: asyncio.Queue[tuple[bytes, bool]] = asyncio.Queue()
-        streaming = Streaming(cast(Served, self.served), Limits(), "match", lines)
+        streaming = Streaming(Limits(), "match", lines)
         self.answering = asyncio.create_task(
             streaming(self.client.scope, self._receive, self.client.send)
         )
@@ -212,100 +177,25 @@ class Stream:
         return bool(self.client.scope["pace"].is_paused())
 
 
-def test_a_process_is_taken_when_there_is_work(monkeypatch: pytest.MonkeyPatch) -> None:
-    """For a whole record behind which nothing comes, not for a part of one. It is given back while the client rests, and the next one goes on
-    with the numbers. A client that hasn't finished a record is to send on."""
-    monkeypatch.setattr(bodies, "SECONDS_OF_LULL", 0.001)
-    monkeypatch.setattr(bodies, "SECONDS_OF_REST", 0.02)
+def test_a_client_that_has_sent_whole_records_isnt_slow() -> None:
+    """It may wait for their lines, which come at once. One that hasn't finished a record is to send on."""
 
     async def run() -> None:
         stream = Stream()
-        for piece in (b"a", b"b" * 30, b"c" * 40_000, b""):
+        for piece in (b"a", b"b" * 30, b"c" * 40_000):
             stream.send(piece)
             await stream.until(stream.pieces.empty)
-            await asyncio.sleep(0.005)
-        assert stream.served.taken == 0 and not stream.is_paused()
+            await turns()
+        assert stream.said() == b"" and not stream.is_paused()
         stream.send(b"\n")
         await stream.until(lambda: stream.said() == b"1\n")
-        assert stream.served.there == 1 and stream.is_paused()
-        stream.send(b"2\n")
-        await stream.until(lambda: stream.said() == b"1\n2\n")
-        assert stream.served.taken == 1
-        await stream.until(lambda: stream.served.there == 0)
-        stream.send(b"\n\n5\n6")
-        await stream.until(lambda: stream.said() == b"1\n2\n5\n")
-        assert stream.served.taken == 2 and not stream.is_paused()
+        assert stream.is_paused()
+        stream.send(b"\n\n4\n5")
+        await stream.until(lambda: stream.said() == b"1\n4\n")
+        assert not stream.is_paused()
         stream.send(b"", is_more=False)
         await stream.answering
-        assert stream.said() == b"1\n2\n5\n6\n" and stream.served.there == 0
-
-    run_within(run())
-
-
-@pytest.mark.parametrize("is_more", [True, False])
-def test_a_process_is_taken_at_once(is_more: bool, monkeypatch: pytest.MonkeyPatch) -> None:
-    """For 64 KiB of records, and at the end, it isn't waited for a lull."""
-    monkeypatch.setattr(bodies, "SECONDS_OF_LULL", 1000)
-
-    async def run() -> None:
-        stream = Stream()
-        stream.send(b"x\n" * (32_767 if is_more else 1), is_more)
-        if is_more:
-            await turns(20)
-            assert stream.served.taken == 0
-            stream.send(b"y\n")
-        await stream.until(lambda: stream.said() != b"")
-        assert stream.served.taken == 1
-        stream.send(b"", is_more=False)
-        await stream.answering
-
-    run_within(run())
-
-
-def test_a_process_that_has_lines_to_give_is_kept(monkeypatch: pytest.MonkeyPatch) -> None:
-    """However long they take."""
-    monkeypatch.setattr(bodies, "SECONDS_OF_REST", 0.001)
-    monkeypatch.setattr(bodies, "SECONDS_OF_LULL", 0.001)
-
-    async def run() -> None:
-        may_give = asyncio.Event()
-
-        async def given_late(_: Kind, body: Records, __: IsGone) -> AsyncGenerator[bytes, None]:
-            there = [record async for records in body for record in records]
-            await may_give.wait()
-            yield b"".join(b"%d\n" % record.number for record in there)
-
-        stream = Stream(given_late)
-        stream.send(b"1\n")
-        await stream.until(lambda: stream.served.taken == 1)
-        await asyncio.sleep(0.01)
-        stream.send(b"2\n", is_more=False)
-        may_give.set()
-        await stream.answering
-        assert stream.served.taken == 1 and stream.said() == b"1\n2\n"
-
-    run_within(run())
-
-
-def test_a_stream_is_of_one_version(monkeypatch: pytest.MonkeyPatch) -> None:
-    """Where another map took the place of the first one while its client rested it is cut off."""
-    monkeypatch.setattr(bodies, "SECONDS_OF_LULL", 0.001)
-    monkeypatch.setattr(bodies, "SECONDS_OF_REST", 0.001)
-
-    async def run() -> None:
-        stream = Stream()
-        stream.served.now = Version("old", None)
-        stream.send(b"1\n")
-        await stream.until(lambda: stream.said() == b"1\n" and not stream.served.there)
-        stream.served.now = Version("old", None)
-        stream.send(b"2\n")
-        await stream.until(lambda: stream.said() == b"1\n2\n" and not stream.served.there)
-        stream.served.now = Version("old", "other bans")
-        stream.send(b"3\n")
-        stream.send(b"")
-        await stream.until(lambda: stream.client.is_aborted)
-        stream.answering.cancel()
-        assert stream.said() == b"1\n2\n"
+        assert stream.said() == b"1\n4\n5\n"
 
     run_within(run())
 
@@ -315,7 +205,7 @@ def test_a_stream_that_moves(pause: float, is_late: bool) -> None:
     """It may take any time, but no longer than the limit between two pieces: by a clock that is set here."""
     clock = FakeClock()
 
-    async def slow(_: Kind, body: Records, __: IsGone) -> AsyncGenerator[bytes, None]:
+    async def slow(_: Asked, body: Records) -> AsyncGenerator[bytes, None]:
         assert [record.data async for records in body for record in records] == [b"x"]
         for seconds in (20.0, 20.0, pause, 20.0):
             clock.now += seconds
@@ -350,38 +240,115 @@ def test_a_body_that_moves(pause: float, is_late: bool) -> None:
     run_within(run())
 
 
+class Asking:
+    """Records that are asked, and are answered when a test says so."""
+
+    def __init__(self, ahead: int, body: Records) -> None:
+        self.there: list[asyncio.Future[int]] = []
+        self.lots: list[list[int]] = []
+        self.taking = asyncio.create_task(self._take(in_order(body, self._ask, ahead)))
+
+    def _ask(self, record: Record) -> "asyncio.Future[int]":
+        self.there.append(asyncio.get_running_loop().create_future())
+        return self.there[-1]
+
+    async def _take(self, lots: AsyncGenerator[list[tuple[Record, int]], None]) -> None:
+        async with aclosing(lots):
+            async for some in lots:
+                self.lots.append([made for _, made in some])
+
+    async def answer(self, *numbers: int) -> None:
+        """Answers some, each with its number."""
+        for number in numbers:
+            self.there[number].set_result(number)
+        await turns()
+
+
+async def body_of(count: int, error: Exception | None = None) -> Records:
+    """A body of so many records, which may fail then."""
+    yield [Record(number + 1, b"x") for number in range(count)]
+    if error is not None:
+        raise error
+
+
+def test_records_are_asked_ahead() -> None:
+    """So many at once. Their answers are taken in order, as many as are there."""
+
+    async def run() -> None:
+        asking = Asking(3, body_of(7))
+        await turns()
+        assert len(asking.there) == 3
+        await asking.answer(1, 2)
+        assert not asking.lots and len(asking.there) == 3
+        await asking.answer(0)
+        assert asking.lots == [[0, 1, 2]] and len(asking.there) == 6
+        await asking.answer(3)
+        assert asking.lots[1:] == [[3]] and len(asking.there) == 7
+        await asking.answer(4, 5, 6)
+        await asking.taking
+        assert asking.lots[2:] == [[4, 5, 6]]
+
+    run_within(run())
+
+
+def test_a_body_that_fails() -> None:
+    """What was asked before is answered; then its error is raised."""
+
+    async def run() -> None:
+        asking = Asking(3, body_of(2, Problem(413, "BodyTooLarge", "it is too long")))
+        await turns()
+        await asking.answer(0, 1)
+        with pytest.raises(Problem, match="it is too long"):
+            await asking.taking
+        assert asking.lots == [[0, 1]]
+
+    run_within(run())
+
+
+def test_an_answer_that_fails_while_others_are_asked() -> None:
+    """These aren't asked any more, and nothing else is logged of those that failed too."""
+    heard: list[Any] = []
+
+    async def run() -> None:
+        asyncio.get_running_loop().set_exception_handler(lambda _, about: heard.append(about))
+        asking = Asking(3, body_of(7))
+        await turns()
+        for one in asking.there[:2]:
+            one.set_exception(ProgramEnded("it ended"))
+        with pytest.raises(ProgramEnded):
+            await asking.taking
+        assert asking.there[2].cancelled() and len(asking.there) == 3
+        asking.there.clear()
+        gc.collect()
+
+    run_within(run())
+    assert not heard
+
+
+def test_a_stream_is_of_one_version(tmp_path: Path) -> None:
+    """Where another map takes the place of the first one it is cut off."""
+
+    async def run() -> None:
+        served = FolderMap(folder_of(tmp_path / "map"), 1, Limits())
+        other = Edition(tmp_path / "map")
+        other.version = Version("other", None)
+        answers = [Answer(b"{}", None, edition) for edition in (served.pool.edition, other)]
+
+        def ask(*_: object, **__: object) -> "asyncio.Future[Answer]":
+            found: asyncio.Future[Answer] = asyncio.get_running_loop().create_future()
+            found.set_result(answers.pop(0))
+            return found
+
+        setattr(served.pool, "ask", ask)
+        with pytest.raises(MapRefused):
+            await lines_about(served, body_of(2))
+
+    run_within(run())
+
+
 async def lines_about(served: Served, body: Records) -> bytes:
     """The lines of a map about the records of a body."""
     return b"".join([one.line() async for some in served.batch(MATCH, body) for one in some])
-
-
-def test_a_body_that_fails_while_nobody_reads_it(
-    tmp_path: Path, monkeypatch: pytest.MonkeyPatch
-) -> None:
-    """Its error is the answer, and nothing else is logged of it."""
-    program = tmp_path / "idle"
-    program.write_text("#!/bin/sh\nexec sleep 60\n")
-    program.chmod(0o755)
-    monkeypatch.setenv("OLR_PROGRAM", str(program))
-    logged: list[Any] = []
-
-    async def body() -> Records:
-        # More than a pipe takes, and less than is waited for.
-        for _ in range(3):
-            yield [Record(1, b"x" * 99)] * 400
-        raise Problem(413, "BodyTooLarge", "it is too long")
-
-    async def run() -> None:
-        asyncio.get_running_loop().set_exception_handler(lambda _, about: logged.append(about))
-        served = FolderMap(folder_of(tmp_path / "map"), Capacity(1, 1), Limits())
-        with pytest.raises(Problem, match="it is too long"):
-            await lines_about(served, body())
-        for _ in range(3):
-            await asyncio.sleep(0.01)
-            gc.collect()
-
-    run_within(run())
-    assert not logged
 
 
 @pytest.mark.parametrize("size", [LONG - 1, LONG, LONG + 1])
