@@ -9,7 +9,8 @@
 3. The most memory of a process of the server beside that of `olr batch`, and that of the server.
 4. What the page asks for (`GET /scene`) by one, two and four people, each from an address and with a radius of their own.
 5. `GET /match` by one client, while another one varies its options on eight connections.
-6. The memory of the server and of all its processes while four clients ask for a thousand matchings of the reference in a file (--large), as
+6. `GET /places` with numbers that were never asked before, and pages behind cursors, each beside the same again.
+7. The memory of the server and of all its processes while four clients ask for a thousand matchings of the reference in a file (--large), as
    `generate_reference.py --points 24 --lines-per-leg 12` writes one, as GeoJSON and as JSON, and while four send the largest list with the most
    values, and how long `/health` takes meanwhile. What several processes share is divided among them (Pss). The status is 1 if the server itself
    had more than 300 MiB.
@@ -20,14 +21,17 @@ It needs what ./olr-tools setup installs.
 import argparse
 import asyncio
 import http.client
+import json
 import os
 import random
+import statistics
 import subprocess
 import sys
 import tempfile
 import time
 from concurrent.futures import ThreadPoolExecutor
 from pathlib import Path
+from urllib.parse import quote
 
 from served import Client, all_of, children_of, command_of, kib_of, path_of, records_of, serving, shared_kib_of
 
@@ -88,6 +92,28 @@ async def beside_varied(port, texts, seconds):
 
     await asyncio.gather(ask(), *(vary(number) for number in range(8)))
     return sorted(times)
+
+
+async def beside_again(port, texts):
+    """The times of answers that nobody has asked for before, and of the same again: with other numbers, and of pages behind cursors."""
+    client, times = Client(port), {"numbers": [], "cursors": []}
+
+    async def asked_twice(name, path):
+        for _ in range(2):
+            begin = time.perf_counter()
+            status, body = await client.get(path)
+            assert status in (200, 422)
+            times[name].append(time.perf_counter() - begin)
+        return body
+
+    for number, text in enumerate(texts[:300]):
+        await asked_twice("numbers", f"{path_of('places', text)}&radius={40 + number}&look={500 + number}")
+        path = f"{path_of('match', text)}&page=1"
+        after = json.loads((await client.get(path))[1]).get("next")
+        if after is not None:
+            await asked_twice("cursors", f"{path}&after={quote(after, safe='')}")
+    client.close()
+    return times
 
 
 def asked(port, path, method="GET", body=None, **headers):
@@ -215,6 +241,9 @@ def main():
         times = asyncio.run(beside_varied(port, texts, chosen.seconds))
         middle, late = (1000 * times[int(len(times) * share)] for share in (0.5, 0.99))
         print(f"GET /match beside options that vary: median {middle:.1f} ms, 99 percent {late:.1f} ms")
+        for name, times in asyncio.run(beside_again(port, texts)).items():
+            first, again = (1000 * statistics.median(times[one::2]) for one in (0, 1))
+            print(f"new {name}: median {first:.2f} ms, again {again:.2f} ms, ratio {first / again:.2f}")
         if chosen.large is not None:
             large(server, port, chosen.large.read_text().strip())
 
