@@ -80,7 +80,7 @@ async def in_order(
                 continue
             await asked[0][1]
             there = list[tuple[Record, Made]]()
-            while asked and asked[0][1].done():
+            while asked and asked[0][1].done() and asked[0][1].exception() is None:
                 record, answer = asked.popleft()
                 there.append((record, answer.result()))
                 room.release()
