@@ -10,6 +10,7 @@ from pathlib import Path
 from typing import Any
 
 import olr
+from bad_programs import bad_program
 from conftest import TOP, Program
 from olr.pages.view.showing import View
 
@@ -34,7 +35,10 @@ def test_the_example_of(
     name: str, program: Program, tmp_path: Path, monkeypatch: pytest.MonkeyPatch
 ) -> None:
     (tmp_path / "examples").symlink_to(TOP / "examples")
-    monkeypatch.setenv("OLR_PROGRAM", os.fspath(program.path))
+    path = program.path
+    if name == "TimedOut":
+        path = bad_program(tmp_path / "hangs", program, {"CwVF+yN2yhpnBAFdAAsaFg==": "hangs"})
+    monkeypatch.setenv("OLR_PROGRAM", os.fspath(path))
     monkeypatch.chdir(tmp_path)
     text = inspect.getdoc(ALL[name]) or ""
     example = doctest.DocTestParser().get_doctest(text, {}, name, name, 0)

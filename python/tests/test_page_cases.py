@@ -3,6 +3,7 @@
 import json
 import pytest
 import random
+import re
 from collections import Counter
 from collections.abc import Mapping, Sequence
 from pathlib import Path
@@ -134,7 +135,13 @@ def single_case(
     """What the program says of one reference that is a word."""
     ended = program.run(question, *words, "--format", "json", "--", ref)
     text, fault = ended.stdout.removesuffix("\n"), ended.stderr.strip().removeprefix("olr: ")
-    return Case(address(question, ref, options), text if not fault else None, fault or None)
+    answer = without_mark(text) if not fault else None
+    return Case(address(question, ref, options), answer, fault or None)
+
+
+def without_mark(text: str) -> str:
+    """A text whose cursor has no mark of the map, as it has none in the lines of many records."""
+    return re.sub('("next":"[^"@]*)@[0-9a-f]{64}"', r'\1"', text)
 
 
 def require_same(page: FilePage, expected: Sequence[Case]) -> None:
