@@ -184,7 +184,9 @@ def test_a_map_that_is_refused(page: Page, program: Program, tmp_path: Path) -> 
     page.begin(tmp_path)
     for others in ("", ", '1@1'"):
         asked = f"program.answer('match', {{}}, {json.dumps(REFERENCE)}{others})"
-        tried = f"(() => {{ try {{ return {asked}; }} catch (error) {{ return error.message; }} }})()"
+        tried = (
+            f"(() => {{ try {{ return {asked}; }} catch (error) {{ return error.message; }} }})()"
+        )
         assert page.value(tried) == fault
     assert page.value(f"program.show({json.dumps(REFERENCE)}).fault") is None
     page.begin_without_map()
