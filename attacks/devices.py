@@ -48,7 +48,7 @@ CASES = [
     ["why", TOWN, *FILES[:4], "--percent", "0", "--slack", "0", "--nearest", "0", *JSON],
     ["batch", "why", *FILES, "--bearing", "0", "--nearest", "0", "--input", RECORDS],
     ["answer", *FILES],
-    ["answer", *FILES[:4], "--input", RECORDS],
+    ["answer", *FILES, "--input", RECORDS],
 ]
 # The most bytes of a narrow read.
 WIDTH = 64

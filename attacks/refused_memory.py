@@ -165,13 +165,14 @@ def without_memory(line):
     return json.dumps({**record, "answer": None, "fault": "NoMemory"}, ensure_ascii=False, separators=(",", ":")).encode() + b"\n"
 
 
-def refused_records(found, wanted):
-    """How many records have NoMemory in place of their answer, or None where another line differs: also where that of a fault does."""
+def refused_records(found, wanted, faults_of_words):
+    """How many records have NoMemory in place of their answer, or None where another line differs: also where that of a fault does, but for
+    one that is found behind the words of a record, which take memory."""
     lines, wanted_lines = (one[1].splitlines(keepends=True) for one in (found, wanted))
     if (found[0], found[2], len(lines)) != (0, b"", len(wanted_lines)):
         return None
     other = [(line, same) for line, same in zip(lines, wanted_lines) if line != same]
-    is_refused = [line == without_memory(same) and json.loads(same)["fault"] is None for line, same in other]
+    is_refused = [line == without_memory(same) and json.loads(same)["fault"] in faults_of_words for line, same in other]
     return len(other) if all(is_refused) else None
 
 
@@ -189,7 +190,7 @@ def try_batch(trial, library, words, faults):
     trial.need(numbers == [1, 2, 3, 4, 5, 6] and [line["key"] for line in lines][::5] == ["one", "\u00e9"], f"{name}: with ample memory", wanted)
     ended = one = 0
     for what, found in refusals(run):
-        count = refused_records(found, wanted)
+        count = refused_records(found, wanted, (None,) if words[0] == "batch" else (None, "NotBase64"))
         ended, one = ended + (found == NO_MEMORY), one + (count == 1)
         trial.expect(found == NO_MEMORY or (count is not None and (count <= 1 or "all behind" in what)), f"{name}: {what}", found)
     if ended == 0 or one == 0:
