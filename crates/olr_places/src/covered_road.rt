@@ -114,7 +114,7 @@ impl CoveredRoad {
     }
 
     /// The location.
-    pub(crate) fn location(&self) -> &Located
+    pub fn location(&self) -> &Located
         ensures { result.now ≡ self.now.located }
     {
         &self.located

@@ -37,4 +37,4 @@ pub use laws::closeness_is_tested;
 pub use limits::{BadNumber, PlaceLimit, PlaceLimits};
 pub use opener::Opener;
 pub use places::Places;
-pub use text::places_text;
+pub use text::{places_text, push_covered};

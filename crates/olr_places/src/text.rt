@@ -18,7 +18,11 @@ use std::alloc::Global;
 use std::fmt::Write;
 
 /// Adds the rows of the stretch of road that a matching covers.
-fn push_covered(text: &mut String, on: &OnMap<'_>, location: &Located) -> Result<(), NoMemory>
+///
+/// # Errors
+///
+/// [`NoMemory`] where the allocator refused memory.
+pub fn push_covered(text: &mut String, on: &OnMap<'_>, location: &Located) -> Result<(), NoMemory>
     ensures { OnOk result (string_bytes text.new
         ≡ string_bytes text.old ++ covered_rows on.now.map.now (located_value location.now)) }
 {

@@ -71,7 +71,11 @@ impl ToText<OnMap<'_>> for Piece {
 }
 
 /// Adds the row of pieces under a name.
-fn push_pieces(
+///
+/// # Errors
+///
+/// [`NoMemory`] where the allocator refused memory.
+pub fn push_pieces(
     text: &mut String,
     on: &OnMap<'_>,
     name: &str,
@@ -127,7 +131,11 @@ pub fn push_place(
 }
 
 /// Adds the two rows of a location.
-fn push_location(text: &mut String, on: &OnMap<'_>, location: &Located) -> Result<(), NoMemory>
+///
+/// # Errors
+///
+/// [`NoMemory`] where the allocator refused memory.
+pub fn push_location(text: &mut String, on: &OnMap<'_>, location: &Located) -> Result<(), NoMemory>
     ensures { OnOk result (string_bytes text.new
         ≡ string_bytes text.old ++ location_rows on.now.map.now (located_value location.now)) }
 {

@@ -1,7 +1,7 @@
 //! What is written as JSON.
 
 ghost use Rattle.std.specs.Prelude.{◌≡◌, IfOk, OnOk, string_bytes};
-ghost use Rattle.serde_json.specs.Data.{Data, Members, member, no_members, object, string};
+ghost use Rattle.serde_json.specs.Data.{Data, Members, boolean, member, no_members, object, string};
 ghost use Rattle.serde_json.specs.Events.{members_len};
 ghost use Rattle.serde_json.specs.Read.{max_depth};
 ghost use Rattle.olr_text.specs.JsonValues.{IsJsonLine, NestsWithin, array_of, integer, or_null, whole};
@@ -26,6 +26,14 @@ pub trait ToJson<On> {
     fn send<S: Serializer>(&self, on: &On, out: &mut S) -> Result<(), S::Error>
         ensures { OnOk result
             (Sends (value on.now self.now) (S.written out.old) (S.written out.new)) };
+}
+
+impl<On> ToJson<On> for bool {
+    ghost value = { λ _ holds. boolean holds };
+
+    fn send<S: Serializer>(&self, _on: &On, out: &mut S) -> Result<(), S::Error> {
+        out.bool(*self)
+    }
 }
 
 impl<On> ToJson<On> for u8 {

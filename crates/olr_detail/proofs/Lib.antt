@@ -1,0 +1,5 @@
+pub mod Candidates
+pub mod Matchings
+pub mod Pushed
+pub mod Written
+pub mod Pages

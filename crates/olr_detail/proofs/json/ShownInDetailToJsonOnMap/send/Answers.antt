@@ -1,0 +1,24 @@
+use Rattle.std.proofs.Common.{subst}
+use Rattle.std.specs.Prelude.{OnOk}
+use Rattle.serde_json.specs.Data.{Data}
+use Rattle.olr_text.specs.Sent.{Sends}
+use Rattle.olr_detail.proofs.Written.{same_matching}
+use Rattle.olr_detail.proofs.json.ShownInDetailToJsonOnMap.send.Goals as goal
+
+pub returns-in-Line : goal.returns-in-Line
+returns-in-Line g c =
+    let written = g.S.Serializer.written in
+    subst (λ (value : Data). OnOk c.send_object.result
+    (Sends value (written c.args.out.now) (written c.send_object.new.out)))
+    (same_matching c.args.on.now.map.now c.args.self.now.route.now _ _ _ _ _ _ _
+    c.write-cursor.ensures.cursor.same c.key.view_is c.detail.view_is c.in-Line.is)
+    c.send_object.ensures
+
+pub returns-in-Point : goal.returns-in-Point
+returns-in-Point g c =
+    let written = g.S.Serializer.written in
+    subst (λ (value : Data). OnOk c.send_object-in-Point.result
+    (Sends value (written c.args.out.now) (written c.send_object-in-Point.new.out)))
+    (same_matching c.args.on.now.map.now c.args.self.now.route.now _ _ _ _ _ _ _
+    c.write-cursor.ensures.cursor.same c.key.view_is c.detail.view_is c.in-Point.is)
+    c.send_object-in-Point.ensures

@@ -1,0 +1,10 @@
+pub mod CandidateDetail
+pub mod LegDetail
+pub mod Turning
+pub mod Cost
+pub mod Values
+pub mod MatchingDetail
+pub mod Json
+pub mod Text
+pub mod Page
+pub mod Listing
