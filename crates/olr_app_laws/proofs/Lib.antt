@@ -10,5 +10,6 @@ mod HeadlineAll
 mod Marks
 mod AsRuns
 mod OneReply
+mod OfRequests
 mod OneRequest
 mod OneLine

@@ -1,21 +1,24 @@
 -- Laws on the answers to records. Each is the contract of a public function that does nothing at
 -- run time.
-use Rattle.std.specs.Prelude.{◌≡◌, ℕ, List, Result, Ok, Err}
+use Rattle.std.specs.Prelude.{◌≡◌, ◌≢◌, ◌↔◌, ℕ, List, Option, None, Some, Result, Ok, Err}
 use Rattle.std.specs.Borrow.{Bor}
 use Rattle.olr_map.specs.Files.{IsMapOf, known}
 use Rattle.olr_road.specs.RoadMap.{IsSoundMap, RoadMap}
 use Rattle.olr_app.specs.Answer.{IsAnswer as IsAnswerOfRun, IsAnswerOfMany}
-use Rattle.olr_app_laws.specs.AnswerLaws.{FaultIsOfRun, OneAnswerOfMany, OutputIsOfRun, ShowsSame}
+use Rattle.olr_app_laws.specs.AnswerLaws.{FaultIsOfRun, IsSameOutput, OneAnswerOfMany, OutputIsOfRun, ShowsSame}
 use Rattle.olr_request.specs.Question.{asked_alone}
 use Rattle.olr_request.specs.Request.{at_bytes}
 use Rattle.olr_app.specs.Stages.{IsSingle}
 use Rattle.olr_request.specs.declared.fault.Fault.{Fault}
-use Rattle.olr_batch.specs.Answers.{IsReply}
+use Rattle.olr_request.specs.declared.fault.Fault.TheVariants as fault
+use Rattle.olr_batch.specs.Answers.{IsFaultFor, IsReply}
 use Rattle.olr_request.specs.declared.request.Request.{Request}
-use Rattle.olr_words.specs.OneRequest.{StateTheSame}
+use Rattle.olr_words.specs.OneRequest.{AreEqual, StateTheSame, placeless}
 use Rattle.olr_words.specs.Record.{IsRequestOf}
 use Rattle.olr_words.specs.declared.record.RecordFault.{RecordFault}
+use Rattle.olr_words.specs.declared.record.RecordFault.TheVariants as record_fault
 use Rattle.olr_words.specs.declared.words.Records.{Records}
+use Rattle.olr_words.specs.declared.words.Records.TheVariants.{References, Requests}
 use Rattle.olr_request.specs.declared.question.Question.{Question}
 use Rattle.olr_request.specs.declared.question.QuestionKind.{QuestionKind}
 use Rattle.olr_request.specs.declared.question.QuestionKind.TheVariants.{Match}
@@ -57,11 +60,69 @@ abbrev pub OneAnswer : Type 0
 OneAnswer = (road : RoadMap) (asked : Question) (text : List ℕ) → IsSoundMap road
     → IsSingle (IsAnswer asked road text)
 
--- The text of a record has one answer at most, which is a function of the map, of what records are
--- and of that text alone: also where the text is a whole request.
+-- ---- the reply to a text
+
+-- the answer to a text, or the fault in place of it
+abbrev pub Replies : Records → RoadMap → List ℕ → Result (List ℕ) RecordFault → Type 0
+Replies records road text (Ok answer) = IsReply records road text answer
+Replies records road text (Err why) = IsFaultFor records road text why
+
+-- What a reply states of a text: its answer, or its fault, or by `Some (Err None)` that its words ask
+-- for nothing. It states nothing where memory was refused.
+abbrev pub shown : Result (List ℕ) RecordFault → Option (Result (List ℕ) (Option Fault))
+shown (Ok answer) = Some (Ok answer)
+shown (Err (record_fault.Words line)) = Some (Err None)
+shown (Err (record_fault.Fault fault.NoMemory)) = None
+shown (Err (record_fault.Fault why)) = Some (Err (Some why))
+
+-- The text of a record has one answer or one fault at most, and not both, by the map, by what records
+-- are and by that text alone: also where the text is a whole request. `NoMemory` may come in place of
+-- either, and the line of a fault of words isn't stated.
 abbrev pub OneReply : Type 0
-OneReply = (records : Records) (road : RoadMap) (text one other : List ℕ) → IsSoundMap road
-    → IsReply records road text one → IsReply records road text other → one ≡ other
+OneReply = (records : Records) (road : RoadMap) (text : List ℕ)
+    (one other : Result (List ℕ) RecordFault) → IsSoundMap road
+    → Replies records road text one → Replies records road text other
+    → AreEqual (shown one) (shown other)
+
+-- ---- requests, beside `batch` and runs
+
+-- the text of a request asks a question of a reference, as `batch` does
+pub record AsksAlone (question : Question) (reference text : List ℕ) : Type 0 where
+  pub request : Request
+  pub asked : IsRequestOf text (Ok request)
+  pub alone : placeless request
+      ≡ asked_alone question.what question.tolerances (at_bytes reference)
+
+-- Such a text is answered as the reference is as a record of `batch`.
+abbrev pub BatchIsAnswer : Type 0
+BatchIsAnswer = (question : Question) (road : RoadMap) (reference text output : List ℕ)
+    → AsksAlone question reference text
+    → IsReply (References question) road reference output ↔ IsReply Requests road text output
+
+-- It has the same faults. Of `NoMemory` nothing is stated: memory for its words may be refused.
+abbrev pub BatchFaultIsAnswers : Type 0
+BatchFaultIsAnswers = (question : Question) (road : RoadMap) (reference text : List ℕ)
+    (why : Fault) → AsksAlone question reference text → why ≢ fault.NoMemory
+    → IsFaultFor (References question) road reference (record_fault.Fault why)
+    ↔ IsFaultFor Requests road text (record_fault.Fault why)
+
+-- The answer to the text of a request is what a run for this request prints on the same files, but
+-- for the mark in the cursor at the end of a page.
+abbrev pub RequestsAreOfRuns : Type 0
+RequestsAreOfRuns = (nodes lines bans : List ℕ) (road : RoadMap) (text : List ℕ) (request : Request)
+    (output answer : List ℕ) → IsMapOf nodes lines bans road → IsRequestOf text (Ok request)
+    → IsAnswerOfRun (known nodes lines bans) request (Ok output)
+    → IsReply Requests road text answer → IsSameOutput request road output answer
+
+-- It has a fault in place of an answer exactly where such a run ends with this fault of the texts.
+abbrev pub RequestFaultsAreOfRuns : Type 0
+RequestFaultsAreOfRuns = (nodes lines bans : List ℕ) (road : RoadMap) (text : List ℕ)
+    (request : Request) (why : Fault) → IsMapOf nodes lines bans road
+    → IsRequestOf text (Ok request) → why ≢ fault.NoMemory
+    → IsAnswerOfRun (known nodes lines bans) request (Err why)
+    ↔ IsFaultFor Requests road text (record_fault.Fault why)
+
+-- ---- what these rest on
 
 -- the words of a text ask for one thing
 abbrev pub OneRequest : Type 0

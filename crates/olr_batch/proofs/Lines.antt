@@ -21,7 +21,7 @@ use Rattle.olr_request.specs.declared.request.Pages.TheVariants.{All, One}
 use Rattle.olr_request.specs.declared.request.Request.{Request}
 use Rattle.olr_request.specs.declared.request.Request.TheVariants.{Show}
 use Rattle.olr_app.proofs.OnePage.{on_map}
-use Rattle.olr_app.proofs.Single.{same_ok}
+use Rattle.olr_app.proofs.Single.{no_ok_and_err, same_ok}
 use Rattle.olr_batch.specs.Answers.{IsAsked, IsFaultFor, IsReply}
 use Rattle.olr_request.specs.declared.question.QuestionKind.{QuestionKind}
 use Rattle.olr_request.specs.declared.question.QuestionKind.TheVariants.{Candidates, Match, Places, Why}
@@ -69,7 +69,8 @@ module _ (road : RoadMap) (accepted : Accepted) (output : List ℕ) where
   of_record (References question) text request asked is =
       of_question question.what question.tolerances (at_bytes text) None
       (subst Answers (same_ok asked) is)
-  of_record Requests text request asked is =
+  of_record Requests text request (inl refused) is = no_ok_and_err refused
+  of_record Requests text request (inr asked) is =
       let ask = asked.2 in
       elim ask.asks [
         | inl show ↦ of_show ask.given.text request

@@ -10,12 +10,9 @@ use Rattle.olr_request.specs.declared.question.Question.{Question}
 use Rattle.olr_request.specs.declared.question.QuestionKind.{QuestionKind}
 use Rattle.olr_request.specs.declared.question.QuestionKind.TheVariants.{Candidates, Match, Places, Why}
 use Rattle.olr_request.specs.declared.request.Request.{Request}
-use Rattle.olr_request.specs.declared.fault.Fault.TheVariants as fault
-use Rattle.olr_batch.specs.Answers.{IsAsked, IsFaultFor, IsReply}
-use Rattle.olr_words.specs.Record.{AreWordsOf, IsRequestOfWords}
-use Rattle.olr_words.specs.declared.record.RecordFault.{RecordFault}
+use Rattle.olr_batch.specs.Answers.{IsFaultFor, IsReply}
 use Rattle.olr_words.specs.declared.record.RecordFault.TheVariants as record_fault
-use Rattle.olr_words.specs.declared.words.Records.TheVariants.{References, Requests}
+use Rattle.olr_words.specs.declared.words.Records.TheVariants.{References}
 
 -- a text is accepted by its bytes, wherever it lies
 accepted_alone : (what : QuestionKind) (tolerances : Tolerances) (text : Bor (List ℕ))
@@ -63,12 +60,3 @@ module _ (question : Question) (road : RoadMap) (text : Bor (List ℕ)) where
     fault_alone why (subst (λ (r : Request). IsFaultOfMany road r why) same is),
     refl,
   )
-
--- ---- a request
-
--- words that make no request
-pub refused : (text : List ℕ) (words : List (List ℕ)) (why : RecordFault) → AreWordsOf text words
-    → IsRequestOfWords words (Err why) → IsAsked Requests text (Err why)
-refused text words (record_fault.Words line) are is = (words, are, is)
-refused text words (record_fault.Fault fault.NoMemory) are is = tt
-refused text words (record_fault.Fault other) are is = (words, are, is)

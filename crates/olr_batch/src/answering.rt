@@ -18,8 +18,9 @@ use olr_road::Map;
 use olr_words::Records;
 use std::alloc::Global;
 
-/// How many bytes a line takes at most that has a fault in place of an answer: one with a key of
-/// 65,536 bytes, of which each is escaped by six.
+/// How many bytes a line takes at most that has a fault in place of an answer. Its key and the words
+/// in its fault are parts of a record of 65,536 bytes, of which each is escaped by six at most.
+/// Beside them are at most 256.
 const ROOM: usize = 6 * 65_536 + 256;
 
 /// What answers the records of an input, one after the other.
@@ -98,9 +99,9 @@ impl Answering {
         out: &mut O,
     ) -> Result<bool, Fault>
         ensures records { on.new.records ≡ on.old.records }
-        ensures map { on.new.on.map ≡ on.old.on.map }
+        ensures map { on.new.map.map ≡ on.old.map.map }
         ensures moves { IfOk result (λ found. MatchBool found
-            (IsWrittenNext O.taken O.failed on.old.records.now on.old.on.map.now number
+            (IsWrittenNext O.taken O.failed on.old.records.now on.old.map.map.now number
             (left_of self.old.messages (S.left input.old))
             (left_of self.new.messages (S.left input.new)) out.old out.new)
             (IsLast O.taken O.failed O.flush_gives
@@ -108,7 +109,7 @@ impl Answering {
             (left_of self.new.messages (S.left input.new)) out.old out.new)) }
         ensures none_failed { OnOk result (S.failed input.new ≡ S.failed input.old) }
         ensures fault { IfErr result (IsStepStopped O.taken O.failed O.put_gives O.flush_gives
-            on.old.records.now on.old.on.map.now number
+            on.old.records.now on.old.map.map.now number
             (left_of self.old.messages (S.left input.old))
             (left_of self.new.messages (S.left input.new)) self.new.messages.at_hand
             (S.failed input.old) (S.failed input.new) out.old out.new) }
@@ -138,11 +139,11 @@ impl Answering {
     ) -> Result<(), Fault>
         requires none_at_hand { self.old.messages.at_hand ≡ [] }
         ensures answered { OnOk result (AreAnswered O.taken O.failed O.flush_gives
-            on.old.records.now on.old.on.map.now (S.left input.old) out.old out.new) }
+            on.old.records.now on.old.map.map.now (S.left input.old) out.old out.new) }
         ensures input_source { OnOk result
             (IsAtEnd (S.left input.new) × (S.failed input.new ≡ S.failed input.old)) }
         ensures fault { IfErr result (IsStopped S.left S.failed O.taken O.failed O.put_gives
-            O.flush_gives on.old.records.now on.old.on.map.now input.old input.new out.old out.new) }
+            O.flush_gives on.old.records.now on.old.map.map.now input.old input.new out.old out.new) }
     {
         for number in 1..u64::MAX {
             if !self.next(on, number, input, out)? {
@@ -177,7 +178,7 @@ pub fn answer_records<S: Source, O: Sink>(
 {
     let mut on = RecordsOnMap {
         records,
-        on: MapForRequests::new(map),
+        map: MapForRequests::new(map),
     };
     Answering::new(alloc)?.all(&mut on, input, out)?;
     Ok(())

@@ -9,8 +9,8 @@
 //!   on a map that was read before.
 //! - [`batch`]: [`run_batch`], all of this from the files of a map to the output.
 //!
-//! That an answer is what [`run`](olr_app::run) prints for the text alone is a law of
-//! `olr_app_laws`.
+//! That the answer to a reference is what [`run`](olr_app::run) prints for it alone, but for the mark
+//! in a cursor, is a law of `olr_app_laws`.
 #![tactic(auto)]
 
 mod answering;

@@ -94,10 +94,10 @@ fn write_answer(
     line: &mut Vec<u8>,
 ) -> Result<(), RecordFault>
     ensures records { on.new.records ≡ on.old.records }
-    ensures map { on.new.on.map ≡ on.old.on.map }
-    ensures line { OnOk result (IsLineOfText on.old.records.now on.old.on.map.now name.entry.number
+    ensures map { on.new.map.map ≡ on.old.map.map }
+    ensures line { OnOk result (IsLineOfText on.old.records.now on.old.map.map.now name.entry.number
         (bytes_of name.entry.key) text.now line.new.items) }
-    ensures fault { IfErr result (IsFaultFor on.old.records.now on.old.on.map.now text.now) }
+    ensures fault { IfErr result (IsFaultFor on.old.records.now on.old.map.map.now text.now) }
 {
     let answer = on.reply(alloc, text)?;
     write_found(alloc, name, &answer, line)?;
@@ -147,8 +147,8 @@ fn write_text(
     line: &mut Vec<u8>,
 ) -> Result<(), NoMemory>
     ensures records { on.new.records ≡ on.old.records }
-    ensures map { on.new.on.map ≡ on.old.on.map }
-    ensures line { OnOk result (IsLineOfText on.old.records.now on.old.on.map.now name.entry.number
+    ensures map { on.new.map.map ≡ on.old.map.map }
+    ensures line { OnOk result (IsLineOfText on.old.records.now on.old.map.map.now name.entry.number
         (bytes_of name.entry.key) text.now line.new.items) }
 {
     let Err(fault) = write_answer(alloc, on, name, text, line) else {
@@ -173,8 +173,8 @@ pub(crate) fn write_record(
     line: &mut Vec<u8>,
 ) -> Result<(), NoMemory>
     ensures records { on.new.records ≡ on.old.records }
-    ensures map { on.new.on.map ≡ on.old.on.map }
-    ensures written { OnOk result (IsWrittenFor on.old.records.now on.old.on.map.now number
+    ensures map { on.new.map.map ≡ on.old.map.map }
+    ensures written { OnOk result (IsWrittenFor on.old.records.now on.old.map.map.now number
         (message_of content.entry) line.new.items) }
 {
     let unnamed = RecordName { number, key: None };

@@ -15,7 +15,7 @@ pub(crate) struct RecordsOnMap<'a> {
     /// What the texts are.
     pub records: &'a Records,
     /// The map.
-    pub on: MapForRequests<'a>,
+    pub map: MapForRequests<'a>,
 }
 
 /// The request that asks a question of the reference of a text. There is always one: it is a result
@@ -80,17 +80,17 @@ impl RecordsOnMap<'_> {
     /// [`MapForRequests::answer`].
     pub(crate) fn reply(&mut self, alloc: Global, text: &str) -> Result<String, RecordFault>
         ensures records { self.new.records ≡ self.old.records }
-        ensures map { self.new.on.map ≡ self.old.on.map }
+        ensures map { self.new.map.map ≡ self.old.map.map }
         ensures answer { IfOk result (λ answer.
-            IsReply self.old.records.now self.old.on.map.now text.now (string_bytes answer)) }
-        ensures fault { IfErr result (IsFaultFor self.old.records.now self.old.on.map.now text.now) }
+            IsReply self.old.records.now self.old.map.map.now text.now (string_bytes answer)) }
+        ensures fault { IfErr result (IsFaultFor self.old.records.now self.old.map.map.now text.now) }
     {
         let records = self.records;
         match records {
             Records::References(question) => {
-                reply_to_reference(alloc, &mut self.on, question, text)
+                reply_to_reference(alloc, &mut self.map, question, text)
             }
-            Records::Requests => reply_to_request(alloc, &mut self.on, text),
+            Records::Requests => reply_to_request(alloc, &mut self.map, text),
         }
     }
 }

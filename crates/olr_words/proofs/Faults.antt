@@ -11,7 +11,8 @@ use Rattle.clap.specs.declared.error.kind.ErrorKind.{ErrorKind}
 use Rattle.clap.specs.declared.error.kind.ErrorKind.TheVariants.{OutOfMemory}
 use Rattle.clap.specs.declared.parser.matches.ArgMatches.{ArgMatches}
 use Rattle.olr_words.specs.Options.{RecordOption, options_of}
-use Rattle.olr_words.specs.Record.{AreFound, AreUnderstood, AskForNothing, HasValue, IsFoundIn, IsOfWords, name_of, text_in}
+use Rattle.olr_words.specs.Found.{AreFound, IsFoundIn, IsOfWords}
+use Rattle.olr_words.specs.Record.{AreUnderstood, AskForNothing, HasValue, name_of, text_in}
 use Rattle.olr_words.specs.RecordCommand.{record_app}
 use Rattle.olr_request.specs.declared.fault.Fault.TheVariants as fault
 use Rattle.olr_words.specs.declared.record.RecordFault.{RecordFault}
@@ -20,7 +21,7 @@ use Rattle.olr_words.proofs.Found.{texts_in_rows}
 use Rattle.olr_words.proofs.SimpleRecords.{record_is_free, record_is_simple}
 
 pub weaker : {P Q : Type 0} → (P → Q) → (f : RecordFault) → IsOfWords P f → IsOfWords Q f
-weaker follows (record_fault.Words text) is = follows is
+weaker follows (record_fault.Words line) is = (is.0, follows is.1)
 weaker follows (record_fault.Fault fault.NoMemory) is = is
 weaker follows (record_fault.Fault _) is = is
 

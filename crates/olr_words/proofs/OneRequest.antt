@@ -170,7 +170,7 @@ HoldsOf words (Some (Err why)) = AskFor words (Err why)
 holds : (words : List (List ℕ)) (r : Result Request RecordFault) → IsRequestOfWords words r
     → IfSome (stated r) (HoldsOf words)
 holds words (Ok request) is = (request, is, refl)
-holds words (Err (record_fault.Words line)) is = is
+holds words (Err (record_fault.Words line)) is = is.1
 holds words (Err (record_fault.Fault fault.NoMemory)) is = tt
 holds words (Err (record_fault.Fault _)) is = is
 
@@ -197,9 +197,19 @@ one_stated words None t p q = tt
 one_stated words (Some s) None p q = tt
 one_stated words (Some s) (Some t) p q = one_holds words s t p q
 
+-- nothing is stated where memory was refused
+none_stated : (s : Option (Option (Result Request Fault))) → AreEqual s None
+none_stated None = tt
+none_stated (Some s) = tt
+
 pub one_request : (text : List ℕ) (one other : Result Request RecordFault) → IsRequestOf text one
     → IsRequestOf text other → StateTheSame one other
-one_request text one other is too =
+one_request text one other (inl refused) too =
+    subst (λ (r : Result Request RecordFault). StateTheSame r other) (sym refused) tt
+one_request text one other (inr is) (inl refused) =
+    subst (λ (r : Result Request RecordFault). StateTheSame one r) (sym refused)
+    (none_stated (stated one))
+one_request text one other (inr is) (inr too) =
     let asked : IsRequestOfWords is.0 other =
     subst (λ words. IsRequestOfWords words other) (one_words text too.0 is.0 too.1 is.1) too.2 in
     one_stated is.0 (stated one) (stated other) (holds is.0 one is.2) (holds is.0 other asked)

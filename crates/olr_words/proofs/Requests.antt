@@ -12,9 +12,9 @@ use Rattle.olr_request.specs.declared.request.Request.{Request}
 use Rattle.olr_request.specs.declared.request.Request.TheVariants.{Show}
 use Rattle.olr_words.specs.Given.{IsGiven}
 use Rattle.olr_words.specs.Options.{RecordOption, options_named, options_of, subcommands}
-use Rattle.olr_words.specs.Record.{AreGivenBy, AskFor, AskForNothing, IsFoundIn, IsOfSubcommand, IsOfWords, IsRequestOfWords, name_of}
+use Rattle.olr_words.specs.Found.{IsFoundIn}
+use Rattle.olr_words.specs.Record.{AreGivenBy, AskFor, IsOfSubcommand, IsRequestOfWords, name_of}
 use Rattle.olr_words.specs.Words.{IsNameOf, IsRefusedRequest, IsRequest}
-use Rattle.olr_words.specs.declared.record.RecordFault.{RecordFault}
 use Rattle.olr_words.specs.declared.record.RecordFault.TheVariants as record_fault
 use Rattle.olr_words.specs.declared.words.Given.{Given}
 use Rattle.olr_words.specs.declared.words.MapSubcommand.{MapSubcommand}
@@ -124,9 +124,3 @@ pub fault_asked : (words : List (List ℕ)) (why : Fault) → AskFor words (Err 
     → IsRequestOfWords words (Err (record_fault.Fault why))
 fault_asked words fault.NoMemory asks = tt
 fault_asked words _ asks = asks
-
-pub nothing_asked : (words : List (List ℕ)) (f : RecordFault) → IsOfWords (AskForNothing words) f
-    → IsRequestOfWords words (Err f)
-nothing_asked words (record_fault.Words text) is = is
-nothing_asked words (record_fault.Fault fault.NoMemory) is = tt
-nothing_asked words (record_fault.Fault _) is = absurd is

@@ -5,4 +5,5 @@ pub mod Options
 pub mod Given
 pub mod RecordCommand
 pub mod Record
+pub mod Found
 pub mod OneRequest

@@ -1,9 +1,8 @@
 -- The words of a record, and what they ask for.
-use Rattle.std.specs.Prelude.{◌≡◌, ◌≢◌, ◌⊎◌, ⊤, ℕ, ◌≤◌, ◌==◌, List, [], ◌∷◌, ◌++◌, length, codes, All}
+use Rattle.std.specs.Prelude.{◌≡◌, ◌≢◌, ◌⊎◌, ⊤, ℕ, ◌≤◌, ◌==◌, List, [], ◌∷◌, ◌++◌, length, codes, All, Contains}
 use Rattle.std.specs.Prelude.{Option, Some, IfSome, Result, Ok, Err, false, unwrap_or}
 use Rattle.std.specs.List.{slice_split}
-use Rattle.clap.specs.Words.{App, fault_of, first_of, found_of, matches_of, rows_of}
-use Rattle.clap.specs.declared.parser.matches.ArgMatches.{ArgMatches}
+use Rattle.clap.specs.Words.{App, fault_of, first_of, matches_of}
 use Rattle.olr_request.specs.Fault.{fault_text}
 use Rattle.olr_request.specs.declared.fault.Fault.{Fault}
 use Rattle.olr_request.specs.declared.request.Format.TheVariants.{Json}
@@ -23,6 +22,10 @@ use Rattle.olr_words.specs.declared.words.MapSubcommand.{MapSubcommand}
 abbrev pub record_fault_text : RecordFault → List ℕ
 record_fault_text (record_fault.Words text) = text.bytes.items
 record_fault_text (record_fault.Fault fault) = fault_text fault
+
+-- that of words which ask for nothing: `Words`, a space and one line, which isn't stated
+abbrev pub IsWordsLine : List ℕ → Type 0
+IsWordsLine line = (why : List ℕ) × (line ≡ codes "Words " ++ why) × (¬ (Contains why 10))
 
 -- ---- the words of a text
 
@@ -110,30 +113,13 @@ pub record AskFor (words : List (List ℕ)) (asked : Result Request Fault) : Typ
 -- stated
 abbrev pub IsRequestOfWords : List (List ℕ) → Result Request RecordFault → Type 0
 IsRequestOfWords words (Ok request) = AskFor words (Ok request)
-IsRequestOfWords words (Err (record_fault.Words text)) = AskForNothing words
+IsRequestOfWords words (Err (record_fault.Words line)) =
+    IsWordsLine line.bytes.items × AskForNothing words
 IsRequestOfWords words (Err (record_fault.Fault fault.NoMemory)) = ⊤
 IsRequestOfWords words (Err (record_fault.Fault why)) = AskFor words (Err why)
 
--- what a text asks for
+-- What a text asks for, or why it asks for nothing: that of its words. Memory for them may be refused,
+-- of which nothing is stated.
 abbrev pub IsRequestOf : List ℕ → Result Request RecordFault → Type 0
-IsRequestOf text asked =
-    (words : List (List ℕ)) × AreWordsOf text words × IsRequestOfWords words asked
-
--- ---- what was found in them
-
--- `clap` takes the words, and found this in them
-pub record AreFound (app : App) (words : List (List ℕ)) (found : ArgMatches) : Type 0 where
-  pub taken : fault_of app words ≡ []
-  pub rows : rows_of (found_of found) ≡ matches_of app words
-
--- the words are understood, and this was found in them
-pub record IsFoundIn (words : List (List ℕ)) (matches : ArgMatches) : Type 0 where
-  pub options : List RecordOption
-  pub understood : AreUnderstood options words
-  pub found : AreFound (app_for options words) words matches
-
--- a fault of words of which something is true; or memory was refused, of which nothing is stated
-abbrev pub IsOfWords : Type 0 → RecordFault → Type 0
-IsOfWords why (record_fault.Words text) = why
-IsOfWords why (record_fault.Fault fault.NoMemory) = ⊤
-IsOfWords why (record_fault.Fault _) = ⊥
+IsRequestOf text asked = (asked ≡ Err (record_fault.Fault fault.NoMemory))
+    ⊎ ((words : List (List ℕ)) × AreWordsOf text words × IsRequestOfWords words asked)

@@ -43,7 +43,11 @@ record_value takes.Number = Some number
 record_value (takes.OneOf name words) = Some (one_of (texts words.now))
 record_value takes.Format = Some json
 record_value takes.Cursor = Some cursor
-record_value _ = None
+record_value (takes.MapFile name) = None
+record_value takes.File = None
+record_value takes.MapFolder = None
+record_value takes.Nothing = None
+record_value takes.Words = None
 
 -- it is the reference
 abbrev pub is_reference : Takes → Bool

@@ -274,7 +274,7 @@ pub const EXPLAIN: Subcommand = Subcommand {
 /// The subcommand for records that have words of their own.
 const ANSWER: Subcommand = Subcommand {
     name: "answer",
-    about: "Answer every question about one map, by one line of JSON for each record, as they come",
+    about: "Answer records that each ask a question about one map, by a line of JSON each, as they come",
     options: &[FILES, REQUESTS],
 };
 

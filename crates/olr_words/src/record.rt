@@ -1,13 +1,14 @@
 //! From the text of a record to the request that its words ask for.
 
-ghost use Rattle.std.specs.Prelude.{◌≡◌, ◌≢◌, All, IfErr, IfNone, IfOk, IfSome, OnOk};
-ghost use Rattle.std.specs.Prelude.{[], ⊤, false, true, ℕ, List, Result};
+ghost use Rattle.std.specs.Prelude.{◌≡◌, ◌≢◌, All, Contains, IfErr, IfNone, IfOk, IfSome, OnOk};
+ghost use Rattle.std.specs.Prelude.{[], ⊤, false, true, ℕ, List, Result, string_bytes};
 ghost use Rattle.std.specs.List.{flat_map};
 ghost use Rattle.clap.specs.Walk.{texts};
 ghost use Rattle.clap.specs.Words.{fault_of, first_value, found_of, kind_of};
 ghost use Rattle.clap.specs.declared.error.kind.ErrorKind.TheVariants.{OutOfMemory as NoMemoryKind};
-ghost use Rattle.olr_words.specs.Record.{AreFound, AreWordsOf, AskForNothing, HasValue, IsFoundIn};
-ghost use Rattle.olr_words.specs.Record.{IsOfWords, IsRequestOf, IsRequestOfWords, name_of};
+ghost use Rattle.olr_words.specs.Found.{AreFound, IsFoundIn, IsOfWords};
+ghost use Rattle.olr_words.specs.Record.{AreWordsOf, AskForNothing, HasValue, IsRequestOf};
+ghost use Rattle.olr_words.specs.Record.{IsRequestOfWords, IsWordsLine, name_of};
 ghost use Rattle.olr_words.specs.OneRequest.{StateTheSame};
 ghost use Rattle.olr_request.specs.declared.request.Request.{Request as RequestOf};
 ghost use Rattle.olr_words.specs.declared.record.RecordFault.{RecordFault as FaultOf};
@@ -28,7 +29,8 @@ use std::alloc::{AllocError, Global};
 /// Why the text of a record asks for nothing, or isn't answered.
 #[derive(Debug, Drop)]
 pub enum RecordFault {
-    /// Its words are none of a request. The text is what is printed: a line that says why.
+    /// Its words aren't those of a request. The text is the fault of its line: `Words`, a space and
+    /// why.
     Words(String),
     /// A fault of the request.
     Fault(Fault),
@@ -76,21 +78,47 @@ pub fn words_of_record<'a>(alloc: Global, text: &'a str) -> Result<Vec<&'a str>,
     Ok(words)
 }
 
-/// The fault of words with this line.
-fn words_fault(line: Result<String, AllocError>) -> RecordFault
+/// The first line of a text.
+fn first_line(text: &str) -> &str
+    ensures { ¬ (Contains result.now 10) }
+{
+    match text.split_once('\n') {
+        Some((line, _)) => line,
+        None => text,
+    }
+}
+
+/// The text of a fault of words: `Words`, a space, and the first line of why they are refused.
+fn words_line(alloc: Global, why: &str) -> Result<String, AllocError>
+    ensures { IfOk result (λ line. IsWordsLine (string_bytes line)) }
+{
+    let line = first_line(why);
+    format!(in alloc; "Words {line}")
+}
+
+/// The fault of words that are refused, and why.
+fn words_fault(alloc: Global, why: Result<String, AllocError>) -> RecordFault
     ensures { IsOfWords ⊤ result }
 {
-    match line {
+    let Ok(why) = why else {
+        return RecordFault::Fault(Fault::NoMemory);
+    };
+    match words_line(alloc, &why) {
         Ok(line) => RecordFault::Words(line),
         Err(_) => RecordFault::Fault(Fault::NoMemory),
     }
 }
 
-/// The line for words that `clap` refuses: the first one of its text.
-fn refused_line(alloc: Global, error: &Error) -> Result<String, AllocError> {
+/// Why `clap` refuses words: the first line of its text, and the second one where a list begins.
+fn why_refused(alloc: Global, error: &Error) -> Result<String, AllocError> {
     let text = format!(in alloc; "{error}")?;
-    let line = text.lines().next().unwrap_or("");
-    format!(in alloc; "Words {}", line.strip_prefix("error: ").unwrap_or(line))
+    let mut lines = text.lines();
+    let line = lines.next().unwrap_or("");
+    let why = line.strip_prefix("error: ").unwrap_or(line);
+    if !why.ends_with(':') {
+        return String::from_str(alloc, why);
+    }
+    format!(in alloc; "{why} {}", lines.next().unwrap_or("").trim_start())
 }
 
 /// The fault of words that `clap` refuses.
@@ -100,7 +128,7 @@ fn refused(alloc: Global, error: Error) -> RecordFault
     if error.kind() == ErrorKind::OutOfMemory {
         return RecordFault::Fault(Fault::NoMemory);
     }
-    words_fault(refused_line(alloc, &error))
+    words_fault(alloc, why_refused(alloc, &error))
 }
 
 /// What is found in the words that begin with the name of a subcommand.
@@ -164,10 +192,8 @@ fn check_values(
     for &options in groups {
         if let Some(option) = first_wrong(options, found) {
             let text = found.get_str(option.name).unwrap_or("");
-            return Err(words_fault(format!(in alloc;
-                "Words invalid value '{text}' for '--{}'",
-                option.name
-            )));
+            let why = format!(in alloc; "invalid value '{text}' for '--{}'", option.name);
+            return Err(words_fault(alloc, why));
         }
     }
     Ok(())
@@ -190,7 +216,8 @@ fn understood<'a>(alloc: Global, words: &'a [&'a str]) -> Result<ArgMatches<'a>,
 {
     let name = name_in(words);
     let Some(subcommand) = subcommand_named(name) else {
-        return Err(words_fault(format!(in alloc; "Words unrecognized subcommand '{name}'")));
+        let why = format!(in alloc; "unrecognized subcommand '{name}'");
+        return Err(words_fault(alloc, why));
     };
     let found = found_in(alloc, &subcommand, words)?;
     check_values(alloc, subcommand.options, &found)?;
@@ -213,7 +240,7 @@ pub fn request_of_record<'a>(
     let found = understood(alloc, words)?;
     let given = Given::read(&found, found.get_str("REF").unwrap_or("")).of_record();
     let Some(asked) = given.request(name_in(words)) else {
-        return Err(words_fault(format!(in alloc; "Words nothing is asked for")));
+        return Err(words_fault(alloc, format!(in alloc; "nothing is asked for")));
     };
     match asked {
         Ok(request) => Ok(request),

@@ -11,7 +11,7 @@ returns-in_err-next-clause-fault g c =
     rw (exit c.from_residual.ensures.1)
     (stopped g.S.Source.left g.S.Source.failed g.O.Sink.taken g.O.Sink.failed g.O.Sink.put_gives
     g.O.Sink.flush_gives c.args.on.now.records.now
-    c.args.on.now.on.map.now c.loop-number.number c.args.input.now c.loop-number.input
+    c.args.on.now.map.map.now c.loop-number.number c.args.input.now c.loop-number.input
     c.args.out.now c.loop-number.out left inv.so_far inv.none_failed
     inv.no_input_failed c.next.new.input c.next.new.out c.next.new.self.messages.at_hand
     c.in_err-next.field-0.0 (rw (← inv.records_are, ← inv.map_is) c.in_err-next.ensures.fault))
@@ -21,7 +21,7 @@ returns-then-not-branch-clause-answered g c =
     let over : c.in_ok-next.field-0 ≡ false = search rules in
     let inv = c.loop-number.invariant in
     answered g.O.Sink.taken g.O.Sink.failed g.O.Sink.flush_gives c.args.on.now.records.now
-    c.args.on.now.on.map.now c.loop-number.number
+    c.args.on.now.map.map.now c.loop-number.number
     (g.S.Source.left c.args.input.now)
     (left_of c.loop-number.self.messages (g.S.Source.left c.loop-number.input)) c.args.out.now
     c.loop-number.out inv.so_far
@@ -62,7 +62,7 @@ returns-in_err-pass_on_unless-clause-fault g c =
       c.loop-number.out,
       [],
       begun g.O.Sink.taken g.O.Sink.failed g.O.Sink.flush_gives c.args.on.now.records.now
-          c.args.on.now.on.map.now c.loop-number.number
+          c.args.on.now.map.map.now c.loop-number.number
           (g.S.Source.left c.args.input.now)
           (left_of c.loop-number.self.messages (g.S.Source.left c.loop-number.input))
           c.args.out.now
@@ -80,7 +80,7 @@ returns-clause-fault g c =
     let counted = inv.so_far.counted in
     let most : 2 ^ 64 - 1 ≤ c.loop-number.number = search rules in (
       begun g.O.Sink.taken g.O.Sink.failed g.O.Sink.flush_gives c.args.on.now.records.now
-          c.args.on.now.on.map.now c.loop-number.number
+          c.args.on.now.map.map.now c.loop-number.number
           (g.S.Source.left c.args.input.now) left c.args.out.now c.loop-number.out inv.so_far
           inv.none_failed c.pass_on_unless.new.out
           c.in_ok-pass_on_unless.ensures.passed_on.0,

@@ -5,8 +5,8 @@ use Rattle.olr_batch.proofs.answering.Answering.all.Given as goal
 abbrev pub invariant-loop-number : goal.invariant-loop-number
 invariant-loop-number g l = record {
   records_are : l.on.records ≡ l.initial.on.records;
-  map_is : l.on.on.map ≡ l.initial.on.on.map;
-  so_far : IsWrittenTo l.initial.on.records.now l.initial.on.on.map.now l.number
+  map_is : l.on.map.map ≡ l.initial.on.map.map;
+  so_far : IsWrittenTo l.initial.on.records.now l.initial.on.map.map.now l.number
       (g.S.Source.left l.initial.input)
       (left_of l.self.messages (g.S.Source.left l.input)) (g.O.Sink.taken l.initial.out)
       (g.O.Sink.taken l.out);
