@@ -15,6 +15,7 @@ from trials import TOP, main
 
 DATA = TOP / "crates/olr_conformance/data"
 NOT_UNDERSTOOD = 2
+WORDS = '"fault":"Words '
 
 
 def make_cases(folder):
@@ -53,16 +54,30 @@ def is_wanted(found, suite, case):
 
 
 def is_output(output, suite, case):
-    """Whether an output is that of a case: any where it has none and succeeds, and lines that go on where its file says so."""
+    """Whether an output is that of a case: any where it has none and succeeds, and lines that go on where its file says so or a fault is `Words`."""
     if "output" not in case:
         return output == "" or case.get("status", 0) == 0
     wanted = case["output"]
-    return output == wanted or (suite.get("more_columns", False) and has_columns(output.splitlines(), wanted.splitlines()))
+    if suite.get("more_columns", False):
+        return have_lines(has_columns, output, wanted)
+    return have_lines(has_words, output, wanted) if WORDS in wanted else output == wanted
 
 
-def has_columns(lines, wanted):
-    """Whether each line begins with the columns of the wanted one."""
-    return len(lines) == len(wanted) and all(f"{line} ".startswith(f"{columns} ") for line, columns in zip(lines, wanted))
+def have_lines(is_line, output, wanted):
+    """Whether an output has as many lines as the wanted one, each of which is as it has to be."""
+    lines = (output.splitlines(), wanted.splitlines())
+    return len(lines[0]) == len(lines[1]) and all(map(is_line, *lines))
+
+
+def has_columns(line, wanted):
+    """Whether a line begins with the columns of the wanted one."""
+    return f"{line} ".startswith(f"{wanted} ")
+
+
+def has_words(line, wanted):
+    """Whether a line is the wanted one, but for what a fault `Words` says."""
+    before, words, behind = wanted.partition(WORDS)
+    return line == wanted if not words else line.startswith(before + words) and line.endswith(behind)
 
 
 def is_fault(errors, case):
