@@ -9,7 +9,7 @@ from olr.errors import MapRefused, ProgramEnded, ToolError
 from olr.serving.edition import Edition
 from olr.serving.limits import Limits
 from olr.serving.pool import Pool
-from olr.serving.process import Answer, Owner, Process
+from olr.serving.process import Answer, Process
 from olr.serving.waiting import CLIENT
 
 Made = TypeVar("Made")
@@ -28,7 +28,7 @@ class FakeClock:
 class FakeProcess(Process):
     """A process that reads the map, answers and ends when a test says so."""
 
-    def __init__(self, edition: Edition, owner: Owner) -> None:
+    def __init__(self, edition: Edition, owner: Pool) -> None:
         super().__init__(edition, owner)
         self.texts: list[bytes] = []
         """Of all requests that it was asked."""
@@ -48,7 +48,7 @@ class FakeProcess(Process):
         """Lets it answer so many requests, each with its text."""
         for _ in range(count):
             request = self.requests.popleft()
-            request.give(Answer(request.text, None, self.edition))
+            request.give(Answer(request.text, None, self._version))
             self.working_since = self._owner.clock()
             self._owner.became_free(self)
 
@@ -79,7 +79,7 @@ class FakePool:
         self.clock, self.edition = FakeClock(), FakeEdition()
         self.started: list[FakeProcess] = []
 
-        def made(edition: Edition, owner: Owner) -> FakeProcess:
+        def made(edition: Edition, owner: Pool) -> FakeProcess:
             self.started.append(FakeProcess(edition, owner))
             return self.started[-1]
 
@@ -134,6 +134,12 @@ async def turns(count: int = 8) -> None:
 def run_within(work: Coroutine[Any, Any, Made], seconds: float = 600) -> Made:
     """Runs something that may take so long at most: what never comes fails, and doesn't hang."""
     return asyncio.run(asyncio.wait_for(work, seconds))
+
+
+def ends_of(pool: Pool) -> dict[str, int]:
+    """How many processes ended that weren't told to, by the reason."""
+    figures = pool.figures()
+    return {reason: figures[reason] for reason in ("ended", "map", "time") if figures[reason]}
 
 
 def ended(text: str = "it ended") -> ProgramEnded:

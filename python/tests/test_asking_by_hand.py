@@ -72,11 +72,11 @@ def test_a_run_that_answers_nothing(
     status: int, printed: bytes, errors: bytes, error: type[Exception], said: str
 ) -> None:
     with pytest.raises(error, match=said):
-        read_once("program", "show", status, printed, errors, int)
+        read_once("program", "show", (status, printed, errors), int)
 
 
 def test_a_run_that_answers() -> None:
-    assert read_once("program", "show", 0, b"7", b"", int) == 7
+    assert read_once("program", "show", (0, b"7", b""), int) == 7
 
 
 def test_which_program(tmp_path: Path, monkeypatch: pytest.MonkeyPatch) -> None:

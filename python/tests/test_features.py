@@ -11,11 +11,13 @@ from fake_pool import run_within, turns
 from olr.asking.files import Version
 from olr.errors import MapRefused
 from olr.serving.features import Features, is_wanted
+from olr.serving.limits import Limits
 from olr.serving.makers import Makers
+from olr.serving.process import Answer
 from olr.serving.queries import Question, asked_of
 from olr.serving.rooms import Room
-from olr.serving.served import Known, Served
-from olr.serving.tasks import MapVersion
+from olr.serving.served import Served
+from olr.serving.tasks import MapVersion, Task
 
 GEOJSON = "application/geo+json"
 
@@ -73,25 +75,26 @@ class FakeMap:
         self.versions, self.asked = versions, 0
         self.digest = network
 
-    async def answer(self, question: Question) -> Known:
+    async def answer(self, question: Question) -> Answer:
         """An answer in which there is nothing."""
         self.asked += 1
         empty = {"match": b'{"matchings":[],"next":null}', "candidates": b'{"points":[]}'}
         what = question.asked.what
-        return Known(empty[what], Version(self.versions[what], None))
+        return Answer(empty[what], None, Version(self.versions[what], None))
 
     def files(self) -> tuple[Path, ...]:
         """None that is read."""
         return ()
 
 
-class FakeMakers:
+class FakeMakers(Makers):
     """Makes nothing, of the version that is there."""
 
     def __init__(self, digest: str) -> None:
+        super().__init__(Limits())
         self.digest = digest
 
-    async def made(self, map: MapVersion, *_: object) -> BytesIO:
+    async def made(self, map: MapVersion, task: Task) -> BytesIO:
         """An empty answer. Raises `MapRefused` for another version."""
         if map.version.network != self.digest:
             raise MapRefused("another version of the map is there")
@@ -100,8 +103,7 @@ class FakeMakers:
 
 def features_of(served: FakeMap) -> Features:
     """What makes GeoJSON of a map."""
-    makers = cast(Makers, FakeMakers(served.digest))
-    return Features(cast(Served, served), None, makers, Room(5, 1))
+    return Features(cast(Served, served), FakeMakers(served.digest), Room(5, 1))
 
 
 @pytest.mark.parametrize(("page", "most"), [(100, 3), (101, 1)])
@@ -110,7 +112,7 @@ def test_large_ones_are_made_one_at_a_time(page: int, most: int) -> None:
     there = greatest = 0
 
     class Counting(FakeMap):
-        async def answer(self, question: Question) -> Known:
+        async def answer(self, question: Question) -> Answer:
             nonlocal there, greatest
             there += 1
             greatest = max(greatest, there)

@@ -16,7 +16,7 @@ from olr.serving.ground import Grounds
 from olr.serving.limits import Limits
 from olr.serving.queries import asked_of
 from olr.serving.scene_texts import streets_for
-from olr.serving.served import Known, Versions
+from olr.serving.served import Asking
 from olr.serving.tasks import JudgedBy, MapVersion, SceneTask
 from servers import path_of, serving, wait_until
 from test_near_paths import block
@@ -120,23 +120,21 @@ def test_streets_are_those_of_the_version_that_is_served(program: Program, tmp_p
     with olr.Map(folder, program=program.path) as asked:
         matching = asked.match(drawn.text).matchings[0]
     about = {"lowest": 0}, olr.decode(drawn.text, program=program.path), matching
-    versions = Versions(read_map_of(folder))
-    version = read_map_of(folder).pool.edition.version
+    asking = Asking(read_map_of(folder))
+    version = read_map_of(folder).pool.edition.files.version
     assert version is not None
-    versions.note(Known(b"", version))
-    assert versions.are_one() and versions.map().version == version
+    asking.versions.add(version)
+    assert asking.map().version == version
     grounds = Grounds()
-    streets = grounds.of(versions.map()).streets(*about)
+    streets = grounds.of(asking.map()).streets(*about)
     assert streets.is_banned(0, 1) and not streets.is_banned(0, 3)
     (folder / "bans.csv").write_text("from,to\n1,4\n")
-    assert grounds.of(versions.map()).streets(*about) is streets
+    assert grounds.of(asking.map()).streets(*about) is streets
     with pytest.raises(olr.MapRefused):
-        Grounds().of(versions.map())
+        Grounds().of(asking.map())
     with pytest.raises(olr.MapRefused):
-        grounds.of(versions.map()._replace(version=version._replace(bans="0")))
-    assert grounds.of(versions.map()).streets(*about) is streets
-    versions.note(Known(b"", version._replace(bans="0")))
-    assert not versions.are_one()
+        grounds.of(asking.map()._replace(version=version._replace(bans="0")))
+    assert grounds.of(asking.map()).streets(*about) is streets
     judged_by = JudgedBy(asked_of("places", {}, 10), None)
     task = SceneTask(judged_by, drawn.text, b"", b"", b"", b"", None, True, None, None)
     _, reference, matching = about

@@ -4,7 +4,7 @@ import asyncio
 import pytest
 from typing import cast
 
-from fake_pool import FakeEdition, FakePool, ended, run_within, turns
+from fake_pool import FakeEdition, FakePool, ended, ends_of, run_within, turns
 from olr.errors import MapRefused, ProgramEnded, TimedOut
 from olr.serving.edition import Edition
 from olr.serving.limits import ABREAST
@@ -29,7 +29,7 @@ def test_a_process_that_ends(monkeypatch: pytest.MonkeyPatch) -> None:
         assert fake.started[2].texts == [b"1", b"2"]
         fake.started[2].answer(2)
         assert await asyncio.gather(*others) == [b"1", b"2"]
-        assert fake.pool.restarts == {"ended": 2}
+        assert fake.pool.figures()["ended"] == 2
 
     run_within(run())
 
@@ -169,6 +169,6 @@ def test_new_files_that_are_refused(monkeypatch: pytest.MonkeyPatch) -> None:
         fake.started[1].fail(MapRefused("they are refused"))
         with pytest.raises(MapRefused):
             await renewing
-        assert fake.there() == [first] and fake.pool.is_able() and not fake.pool.restarts
+        assert fake.there() == [first] and fake.pool.is_able() and not ends_of(fake.pool)
 
     run_within(run())

@@ -4,7 +4,7 @@ import asyncio
 import gc
 import pytest
 
-from fake_pool import FakePool, run_within, turns
+from fake_pool import FakePool, ends_of, run_within, turns
 from olr.serving.limits import ABREAST
 from olr.serving.problems import Problem
 from olr.serving.process import SECONDS_LONG
@@ -27,7 +27,8 @@ def test_processes_are_started_one_at_a_time(monkeypatch: pytest.MonkeyPatch) ->
         await fake.started[1].read()
         assert len(fake.started[1].requests) == ABREAST and len(fake.started) == 3
         await fake.started[2].read()
-        assert fake.pool.sizes() == {"working": 3, "idle": 0, "waiting": ABREAST}
+        figures = fake.pool.figures()
+        assert (figures["working"], figures["idle"], figures["waiting"]) == (3, 0, ABREAST)
         fake.started[1].answer(3)
         assert [len(one.requests) for one in fake.started] == [ABREAST] * 3
         fake.started[2].answer(3)
@@ -72,7 +73,7 @@ def test_a_client_leaves_a_process(
         assert sum(1 for one in processes if one.requests) == share
         assert sum(len(one.requests) for one in processes) == share * ABREAST
         await fake.after(LONG)
-        assert fake.pool.sizes()["waiting"] == (workers - share) * ABREAST
+        assert fake.pool.figures()["waiting"] == (workers - share) * ABREAST
         quick = fake.asked("quick", client="b")
         await turns()
         if workers > 1:
@@ -120,9 +121,9 @@ def test_what_was_taken_back_is_asked_once_of_a_process(monkeypatch: pytest.Monk
         long, quick = fake.asked("long", client="a"), fake.asked("quick", client="b")
         await turns()
         await fake.after(LONG)
-        assert fake.pool.sizes()["waiting"] == 1
+        assert fake.pool.figures()["waiting"] == 1
         first.answer()
-        assert first.texts == [b"long", b"quick"] and fake.pool.sizes()["waiting"] == 0
+        assert first.texts == [b"long", b"quick"] and fake.pool.figures()["waiting"] == 0
         first.answer()
         assert [await long, await quick] == [b"long", b"quick"]
 
@@ -151,7 +152,7 @@ def test_what_takes_too_long(monkeypatch: pytest.MonkeyPatch) -> None:
         await fake.after(0.2)
         error = await asyncio.gather(asked[1], return_exceptions=True)
         assert "answered nothing for 10 seconds" in str(error[0])
-        assert fake.pool.restarts == {"time": 1} and fake.there() == fake.started[1:]
+        assert ends_of(fake.pool) == {"time": 1} and fake.there() == fake.started[1:]
         await fake.started[1].read()
         assert fake.started[1].texts == [b"2", b"3", b"4", b"in stream"]
         fake.started[1].answer(4)
@@ -178,11 +179,11 @@ def test_clients_that_left(monkeypatch: pytest.MonkeyPatch) -> None:
         asked[1].cancel()
         await turns()
         await fake.after(0.4)
-        assert fake.there() == [first] and fake.pool.sizes()["waiting"] == 0
+        assert fake.there() == [first] and fake.pool.figures()["waiting"] == 0
         await fake.after(0.2)
         (second,) = fake.there()
         await second.read()
-        assert second.texts == [b"2", b"3", b"last"] and not fake.pool.restarts
+        assert second.texts == [b"2", b"3", b"last"] and not ends_of(fake.pool)
         await fake.close(*asked, last)
 
     run_within(run())

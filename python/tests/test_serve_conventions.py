@@ -248,7 +248,7 @@ def test_files_that_have_changed_are_not_known() -> None:
     async def run() -> None:
         found = FolderMap(TOP / "examples", 1, Limits())
         assert found.unchanged() is None
-        version = found.pool.edition.version = Version("a", "b")
+        version = found.pool.edition.files.version = Version("a", "b")
         assert found.unchanged() == version
         found.pool.trouble = MapRefused("other files")
         assert found.unchanged() is None

@@ -4,7 +4,6 @@ import asyncio
 import json
 import pytest
 import subprocess
-import sys
 from collections.abc import Iterator
 from starlette.requests import Request
 from starlette.types import Scope
@@ -16,7 +15,7 @@ from olr.serving.limits import MIB, Limits
 from olr.serving.listing import MOST_ROWS
 from olr.serving.lists import MOST_COMING, Lists, most_bytes, reading_of
 from olr.serving.problems import Problem
-from olr.serving.runs import python_words
+from olr.serving.runs import python_command
 
 
 def test_bytes_of_a_list() -> None:
@@ -74,8 +73,7 @@ def test_lists_that_come_slowly() -> None:
 
 def read_list(body: bytes, format: str | None = None) -> tuple[int, bytes, bytes]:
     """The status of a process that reads a list, its lines, and what it says."""
-    words = [*python_words("olr.serving.listing"), json.dumps([format, None, None])]
-    command = [sys.executable, *words]
+    command = python_command("olr.serving.listing", json.dumps([format, None, None]))
     ended = subprocess.run(command, input=body, capture_output=True, check=False, timeout=600)
     return ended.returncode, ended.stdout, ended.stderr
 

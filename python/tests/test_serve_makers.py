@@ -29,7 +29,7 @@ from olr.model.fault import Fault
 from olr.serving import files, maker
 from olr.serving.ground import Ground
 from olr.serving.limits import Limits
-from olr.serving.makers import Makers
+from olr.serving.makers import Makers, _Maker
 from olr.serving.problems import Problem
 from olr.serving.queries import asked_of
 from olr.serving.tasks import FeaturesTask, JudgedBy, MapVersion
@@ -119,6 +119,37 @@ def test_answers_in_pieces(drawn: Path, text: str, program: Program, tmp_path: P
         assert whole.headers["content-length"] == str(len(whole.body))
         packed = server.get(path, **GEOJSON, Accept_Encoding="gzip")
         assert gzip.decompress(packed.body) == whole.body
+
+
+def test_a_client_that_leaves_while_the_maker_ends(
+    map: MapVersion, monkeypatch: pytest.MonkeyPatch
+) -> None:
+    """The next one is answered all the same, by another maker."""
+
+    async def run(asked: Makers) -> None:
+        await made_of(asked, map, task_of())
+        while tasks_of(os.getpid()):
+            await asyncio.sleep(0.05)
+        (maker,) = makers_of(os.getpid())
+        os.kill(maker, signal.SIGKILL)
+        while makers_of(os.getpid()):
+            await asyncio.sleep(0.05)
+        is_waited_for = asyncio.Event()
+
+        async def ended(maker: _Maker) -> None:
+            maker.control.close()
+            is_waited_for.set()
+            await asyncio.Event().wait()
+
+        with monkeypatch.context() as patched:
+            patched.setattr(_Maker, "ended", ended)
+            leaving = asyncio.create_task(made_of(asked, map, task_of()))
+            await is_waited_for.wait()
+            leaving.cancel()
+            await asyncio.wait([leaving])
+        assert json.loads(await made_of(asked, map, task_of()))["features"]
+
+    with_makers(run)
 
 
 def test_processes_that_wait(map: MapVersion) -> None:

@@ -5,6 +5,7 @@ import pytest
 import re
 import shutil
 import yaml
+from collections import Counter
 from collections.abc import Iterator
 from jsonschema import Draft4Validator, RefResolver
 from jsonschema.validators import extend
@@ -13,10 +14,10 @@ from typing import Any, cast
 
 from bad_programs import bad_program
 from conftest import REFERENCE, TOP, Program
-from olr.confidence.confidence import Confidence
 from olr.model.questions import NUMBERS
-from olr.serving.addresses import Service, application
+from olr.serving.addresses import Service, Shared, application
 from olr.serving.limits import Limits
+from olr.serving.makers import Makers
 from olr.serving.meters import Meters
 from olr.serving.openapi import document
 from olr.serving.schemas import OF_QUESTION, examples
@@ -111,9 +112,9 @@ def test_it_is_a_document_of_openapi(described: Document) -> None:
 
 
 def test_all_addresses_are_in_it(described: Document) -> None:
-    service = Service(
-        cast(Served, None), Limits(), Meters(cast(Served, None)), Confidence.default()
-    )
+    limits = Limits()
+    shared = Shared.of(limits, Makers(limits))
+    service = Service(cast(Served, None), limits, Meters(Counter), shared)
     paths = set(application(service).paths)
     assert {it for it in paths - OWN if not it.startswith("/assets/")} == set(
         described.about["paths"]

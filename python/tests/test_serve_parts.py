@@ -3,21 +3,22 @@
 import asyncio
 import json
 import pytest
+from collections import Counter
 from collections.abc import Awaitable, Callable, Sequence
 from typing import Any, cast
 
 from conftest import REFERENCE, TOP
 from fake_pool import run_within
 from olr.asking.exchange import AnswerTooLarge
-from olr.confidence.confidence import Confidence
 from olr.errors import MapRefused, ProgramEnded, ProgramNotFound, TimedOut, ToolError
 from olr.model.fault import Fault
-from olr.serving.addresses import Service, application
+from olr.serving.addresses import Service, Shared, application
 from olr.serving.allowed import Allowed, allowed_for, fields_of, require_allowed
 from olr.serving.edition import Edition
 from olr.serving.folder_map import FolderMap
 from olr.serving.front import Front
 from olr.serving.limits import MOST_BODIES, MOST_REQUESTS, Limits
+from olr.serving.makers import Makers
 from olr.serving.meters import Meters
 from olr.serving.problems import Problem, of_error, of_status
 from olr.serving.queries import asked_of, options_of, question_of
@@ -134,20 +135,9 @@ def test_names_at_the_port_of_the_web() -> None:
     assert refused(lambda: ask([("Host", "localhost")]))[0] == 421
 
 
-class FakeMap:
-    """A map of which some figures are known."""
-
-    def sizes(self) -> dict[str, int]:
-        """Of its processes."""
-        return {"working": 1, "idle": 2, "waiting": 5}
-
-    def starts(self) -> int:
-        """So many were started."""
-        return 7
-
-    def restarts(self) -> dict[str, int]:
-        """And so many ended."""
-        return {"time": 3}
+def known() -> Counter[str]:
+    """The figures of a map."""
+    return Counter(working=1, idle=2, waiting=5, starts=7, time=3)
 
 
 def figures(meters: Meters) -> dict[str, float]:
@@ -159,7 +149,7 @@ def figures(meters: Meters) -> dict[str, float]:
 
 def test_figures() -> None:
     """Requests by address and status, faults, times, and processes."""
-    meters = Meters(cast(Served, FakeMap()))
+    meters = Meters(known)
     for status, seconds in ((200, 0.001), (200, 0.3), (422, 40.0)):
         meters.count("/match", status, seconds)
     meters.count_fault("BadLength")
@@ -216,7 +206,7 @@ def test_how_many_at_once() -> None:
                 raise ToolError("it failed")
             await send({"type": "http.response.start", "status": 200, "headers": []})
 
-        front = Front(app, ["/x"], ALLOWED, Meters(cast(Served, FakeMap())))
+        front = Front(app, ["/x"], ALLOWED, Meters(known))
         for _ in range(2):
             waiting.clear()
             there = [
@@ -252,7 +242,7 @@ def test_how_many_of_one_client(method: str, fields: dict[str, str]) -> None:
                 await read_whole(scope, receive, send)
             await send({"type": "http.response.start", "status": 200, "headers": []})
 
-        front = Front(app, ["/x"], ALLOWED, Meters(cast(Served, FakeMap())))
+        front = Front(app, ["/x"], ALLOWED, Meters(known))
         there = [
             asyncio.create_task(status_of(front, method, "slow", Host="olr.example", **fields))
             for _ in range(MOST_REQUESTS // 4)
@@ -285,7 +275,7 @@ def test_bodies_that_are_waited_for() -> None:
                 await is_there.wait()
             await send({"type": "http.response.start", "status": 200, "headers": []})
 
-        front = Front(app, ["/x"], ALLOWED, Meters(cast(Served, FakeMap())))
+        front = Front(app, ["/x"], ALLOWED, Meters(known))
         body = {"Host": "olr.example", "Transfer_Encoding": "chunked"}
         there = [
             asyncio.create_task(status_of(front, "POST", str(number % 7), **body))
@@ -325,7 +315,7 @@ def test_a_client_that_leaves() -> None:
             finally:
                 ended.append("app")
 
-        meters = Meters(cast(Served, FakeMap()))
+        meters = Meters(known)
         front = Front(app, ["/x"], ALLOWED, meters)
         with pytest.raises(IndexError):
             await status_of(front, Host="olr.example")
@@ -342,7 +332,7 @@ def test_pages_of_other_sites_that_may_ask() -> None:
         await send({"type": "http.response.start", "status": 200, "headers": []})
 
     async def run() -> None:
-        meters = Meters(cast(Served, FakeMap()))
+        meters = Meters(known)
         front = Front(app, ["/x"], ALLOWED, meters)
         site = {"Host": "olr.example", "Origin": "https://maps.example"}
         asked = await status_of(front, "OPTIONS", Access_Control_Request_Method="POST", **site)
@@ -410,7 +400,7 @@ def test_health_while_files_dont_answer(monkeypatch: pytest.MonkeyPatch) -> None
 def test_a_server_that_ends_is_not_ready() -> None:
     """But it lives, also with a map that can't be asked."""
 
-    class Map(FakeMap):
+    class Map:
         """A map that says of itself what it is given."""
 
         def __init__(self, is_able: bool, changed: bool) -> None:
@@ -422,9 +412,10 @@ def test_a_server_that_ends_is_not_ready() -> None:
 
     async def run(is_able: bool, changed: bool, is_ending: bool) -> tuple[int, int]:
         served = cast(Served, Map(is_able, changed))
-        service = Service(served, Limits(), Meters(served), Confidence.default())
+        shared = Shared.of(Limits(), Makers(Limits()))
+        service = Service(served, Limits(), Meters(known), shared)
         app = application(service._replace(is_ending=lambda: is_ending))
-        front = Front(app, [], ALLOWED, Meters(served))
+        front = Front(app, [], ALLOWED, Meters(known))
         health, ready = [
             await status_of(front, path=path, Host="olr.example") for path in ("/health", "/ready")
         ]

@@ -8,6 +8,7 @@ from contextlib import AsyncExitStack
 from pathlib import Path
 
 from asking import draw_map
+from fake_pool import ends_of
 from olr.asking.exchange import UnknownWords, record_about
 from olr.errors import TimedOut
 from olr.serving import process
@@ -81,7 +82,7 @@ def test_what_waits_while_the_files_are_read_anew(folder: Path, tmp_path: Path) 
         pool = pool_of(folder, program, 3)
         await pool.open()
         tasks = [asyncio.create_task(asked(pool, "100")) for _ in range(20)]
-        await until(lambda: pool.sizes()["working"] == 2 and pool.sizes()["waiting"] > 8)
+        await until(lambda: pool.figures()["working"] == 2 and pool.figures()["waiting"] > 8)
         with (folder / "nodes.csv").open("a") as nodes:
             nodes.write("999999999,1,1\n")
         await pool.renew(Edition(folder, program))
@@ -122,7 +123,7 @@ def test_words_that_the_program_doesnt_know(folder: Path, tmp_path: Path) -> Non
         await pool.open()
         first, second = await asyncio.gather(asked(pool, "unknown"), asked(pool, "1"))
         assert isinstance(first, UnknownWords) and second == said("1")
-        assert pool.restarts == {"ended": 1}
+        assert ends_of(pool) == {"ended": 1}
         await pool.close()
 
     asyncio.run(run())
@@ -147,7 +148,7 @@ def test_a_map_that_is_never_read(
         async with asyncio.timeout(10):
             found = await asyncio.gather(*(asked(pool, "x") for _ in range(3)))
         assert all(isinstance(error, TimedOut) for error in found)
-        assert pool.starts == 2
+        assert pool.figures()["starts"] == 2
         await pool.close()
 
     asyncio.run(run())
@@ -182,8 +183,9 @@ def test_room_for_some_at_once() -> None:
         async with AsyncExitStack() as taken:
             for _ in range(ABREAST):
                 await taken.enter_async_context(room.place())
-            with pytest.raises(Problem, match="too many"):
+            with pytest.raises(Problem, match="the turn of this request"):
                 await taken.enter_async_context(room.place())
+            assert room.is_full() and room.waiting == 0
         for _ in range(ABREAST + 1):
             async with room.place():
                 pass

@@ -7,6 +7,7 @@ import pytest
 import shutil
 import signal
 import subprocess
+import time
 from collections.abc import Iterator
 from pathlib import Path
 
@@ -14,10 +15,15 @@ import olr
 from asking import draw_map
 from bad_programs import bad_program
 from conftest import Program, by_default
+from olr.asking.files import Version
+from olr.asking.records import Record
 from olr.model.questions import NUMBERS
 from olr.regions.making import make_store_of_folder
 from olr.serving import store_map
+from olr.serving.bodies import Records
 from olr.serving.limits import Limits
+from olr.serving.process import Answer
+from olr.serving.queries import asked_of
 from runs import Town
 from servers import Server, ask_all, expected_of, path_of, serving, wait_until
 
@@ -46,13 +52,15 @@ def test_answers(what: str, server: Server, program: Program, town: Town, texts:
 
 
 def test_options(server: Server, program: Program, town: Town, texts: list[str]) -> None:
-    """Each set of tolerances has an `olr.Map` of its own, of which some are kept."""
+    """One process answers, whatever the tolerances."""
     for radius in (50, 60, 70, 80, 90, 50):
         words = ("--radius", radius, "--most", 2)
         for text, expected in zip(
             texts[1:4], expected_of(program, town.folder, "places", texts[1:4], *words)
         ):
             assert expected.agrees(server.get(path_of("places", text, radius=radius, most=2)))
+    commands = [Path(f"/proc/{one}/cmdline").read_bytes() for one in server.programs()]
+    assert sum(b"\0answer\0" in one for one in commands) == 1
 
 
 @pytest.mark.parametrize("what", ["match", "places"])
@@ -129,7 +137,7 @@ def test_another_store_in_its_place(
         assert expected.agrees(server.get(path))
         store.write_bytes(b"x")
         server.signal(signal.SIGHUP)
-        wait_until(lambda: "isn't opened anew" in server.log())
+        wait_until(lambda: "aren't read anew" in server.log())
         assert str(tmp_path) not in server.get(path).body.decode()
 
 
@@ -169,6 +177,30 @@ def test_many_that_are_shown(program: Program, town: Town, monkeypatch: pytest.M
 
     asyncio.run(show())
     assert most == [store_map.MOST_SHOWN]
+
+
+def test_records_of_a_stream_are_asked_one_by_one(
+    program: Program, town: Town, monkeypatch: pytest.MonkeyPatch
+) -> None:
+    """So none has waited for too long, however many come at once."""
+    monkeypatch.setattr(store_map, "find_program", lambda: program.path)
+
+    def asked(*_: object) -> Answer:
+        time.sleep(0.2)
+        return Answer(b"{}", None, Version("one", None))
+
+    async def body() -> Records:
+        yield [Record(number, b"x") for number in range(6)]
+
+    async def run() -> int:
+        served = store_map.StoreMap(town.store, Limits(time=0.6))
+        monkeypatch.setattr(served, "_asked", asked)
+        monkeypatch.setattr(served, "version", lambda: Version("one", None))
+        lots = [lot async for lot in served.batch(asked_of("match", {}, 10), body())]
+        await served.close()
+        return sum(map(len, lots))
+
+    assert asyncio.run(run()) == 6
 
 
 def test_what_is_no_store(program: Program, tmp_path: Path) -> None:

@@ -18,7 +18,6 @@ from olr.regions.making import make_store_of_folder
 from olr.serving.bodies import Records, in_order
 from olr.serving.connections import Pace
 from olr.serving.folder_map import FolderMap
-from olr.serving.edition import Edition
 from olr.serving.limits import Limits
 from olr.serving.problems import Problem
 from olr.serving.process import Answer
@@ -330,9 +329,8 @@ def test_a_stream_is_of_one_version(tmp_path: Path) -> None:
 
     async def run() -> None:
         served = FolderMap(folder_of(tmp_path / "map"), 1, Limits())
-        other = Edition(tmp_path / "map")
-        other.version = Version("other", None)
-        answers = [Answer(b"{}", None, edition) for edition in (served.pool.edition, other)]
+        served.pool.edition.files.version = Version("one", None)
+        answers = [Answer(b"{}", None, Version(name, None)) for name in ("one", "other")]
 
         def ask(*_: object, **__: object) -> "asyncio.Future[Answer]":
             found: asyncio.Future[Answer] = asyncio.get_running_loop().create_future()

@@ -31,7 +31,8 @@ class MapFiles:
     def __init__(self, nodes: PathLike, lines: PathLike, bans: PathLike | None) -> None:
         self.nodes, self.lines = Path(nodes), Path(lines)
         self.bans = None if bans is None else Path(bans)
-        self._kept: Version | None = None
+        self.version: Version | None = None
+        """The one that was read: None until then."""
         self._lock = threading.Lock()
 
     @classmethod
@@ -51,15 +52,11 @@ class MapFiles:
             _require_opened(flag.removeprefix("--"), path)
         return [word for flag, path in pairs for word in (flag, str(path))]
 
-    def digest(self) -> str | None:
-        """That of the nodes and lines which were read: None if they weren't, or can't be read twice."""
-        return None if self._kept is None else self._kept.network
-
     def found(self) -> Version:
         """The version that is there. Raises `MapRefused` if another one was read before."""
         network = digest_of(self.nodes, self.lines)
         version = Version(network, None if self.bans is None else digest_of(self.bans))
-        if self._kept not in (None, version):
+        if self.version not in (None, version):
             raise self._changed()
         return version
 
@@ -68,7 +65,7 @@ class MapFiles:
         with self._lock:
             if self.found() != version:
                 raise self._changed()
-            self._kept = version
+            self.version = version
 
     @contextmanager
     def reading(self) -> Iterator[Version]:

@@ -15,11 +15,12 @@ from olr.model.objects import reference
 from olr.model.questions import record_text
 
 Made = TypeVar("Made")
+Ended = tuple[int, bytes, bytes]
+"""The status of a run, what it printed, and what it said on standard error."""
 
 
-def run(program: Path, words: Sequence[str], patience: float) -> tuple[int, bytes, bytes]:
-    """The status of a run of the program, which may take so many seconds, what it printed, and what it said on standard error. Raises
-    `ProgramNotFound` and `TimedOut`."""
+def run(program: Path, words: Sequence[str], patience: float) -> Ended:
+    """A run of the program, which may take so many seconds. Raises `ProgramNotFound` and `TimedOut`."""
     pipe = subprocess.PIPE
     with start(program, words, stdin=subprocess.DEVNULL, stdout=pipe, stderr=pipe) as process:
         try:
@@ -48,20 +49,16 @@ def decode(ref: str, program: PathLike | None = None) -> Reference:
     """
     words = ["show", "--format", "json", "--", record_text(ref).decode()]
     named = find_program(program)
-    return read_once(named, words[0], *run(named, words, PATIENCE), reference)
+    return read_once(named, words[0], run(named, words, PATIENCE), reference)
 
 
 def read_once(
-    program: str | Path,
-    command: str,
-    status: int,
-    printed: bytes,
-    errors: bytes,
-    read: Callable[[bytes], Made],
+    program: str | Path, command: str, ended: Ended, read: Callable[[bytes], Made]
 ) -> Made:
     """What a run of a command of the program printed that has ended, read by a function that raises `ValueError` for what is no answer. Raises
     `Fault`, `MapRefused`, `ProgramNotFound` if it couldn't be started, and `ProgramEnded` if it isn't the program, or was killed.
     """
+    status, printed, errors = ended
     said = errors.decode("utf-8", errors="replace").strip()
     if status == 1 and said.startswith("olr: "):
         raise refusal_of(said.splitlines()[0].removeprefix("olr: "))

@@ -5,7 +5,6 @@ from contextlib import AbstractContextManager, closing, nullcontext
 from functools import partial
 from itertools import tee
 from pathlib import Path
-from types import TracebackType
 from typing import TYPE_CHECKING, Any, Literal, NoReturn, cast, overload
 
 from olr.asking.exchange import Asked, no_answer
@@ -153,12 +152,7 @@ class Map:
     def __enter__(self) -> "Map":
         return self
 
-    def __exit__(
-        self,
-        kind: type[BaseException] | None,
-        error: BaseException | None,
-        trace: TracebackType | None,
-    ) -> None:
+    def __exit__(self, *_: object) -> None:
         self.close()
 
     def close(self) -> None:

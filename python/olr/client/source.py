@@ -22,7 +22,8 @@ class FilesSource(Processes):
 
     def digest(self) -> str | None:
         """That of the nodes and lines that its answers are of; None where it isn't known."""
-        return self.files.digest()
+        version = self.files.version
+        return None if version is None else version.network
 
     def network(self) -> "Network":
         """Its nodes and lines, of the version that its answers are of. Raises `MapRefused` if the files have changed, and `ToolError` if they

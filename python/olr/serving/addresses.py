@@ -8,7 +8,7 @@ from starlette.requests import Request
 from starlette.responses import Response
 from starlette.routing import Route
 from starlette.types import ASGIApp
-from typing import TYPE_CHECKING, NamedTuple
+from typing import NamedTuple
 
 from olr.asking.files import Version
 from olr.asking.exchange import Asked
@@ -46,9 +46,6 @@ from olr.serving.streaming import Streaming
 from olr.serving.tags import tag_of, tagged, tags_of, unchanged
 from olr.version import VERSION
 
-if TYPE_CHECKING:
-    from olr.confidence.confidence import Confidence
-
 JSON = "application/json"
 VARY, VARIES = (b"vary", b"Accept"), {"Vary": "Accept"}
 """What an answer depends on that is there as GeoJSON too: as bytes, and as texts."""
@@ -69,10 +66,10 @@ class Shared(NamedTuple):
     lists: Lists
 
     @classmethod
-    def of(cls, limits: Limits) -> "Shared":
+    def of(cls, limits: Limits, makers: Makers) -> "Shared":
         """What a server has."""
         taken = Shares(MOST_TAKEN, "answers that are taken")
-        return cls(Makers(limits), Room(limits.time, 1), taken, Lists(limits))
+        return cls(makers, Room(limits.time, 1), taken, Lists(limits))
 
 
 class Service(NamedTuple):
@@ -81,22 +78,19 @@ class Service(NamedTuple):
     served: Served
     limits: Limits
     meters: Meters
-    confidence: "Confidence | None" = None
-    """How probable places are, where it is of what is asked: that of the package for None."""
+    shared: Shared
+    """What the addresses of all maps share."""
     tiles: str | None = None
     """The URL of tiles for the page."""
     is_ending: Callable[[], bool] = lambda: False
     """Whether the server was told to end."""
     maps: Mapping[str, Served] = {}
     """All maps of the server by their names."""
-    shared: Shared | None = None
-    """What the addresses of all maps share."""
 
 
 def application(service: Service) -> Addresses:
     """The application."""
-    shared = service.shared or Shared.of(service.limits)
-    answers = _Answers(service, shared)
+    answers = _Answers(service)
     return Addresses(
         [
             *(
@@ -105,7 +99,7 @@ def application(service: Service) -> Addresses:
             ),
             Route("/show", answers.show),
             Route("/scene", answers.scene),
-            Route("/messages", shared.lists.answer, methods=["POST"]),
+            Route("/messages", service.shared.lists.answer, methods=["POST"]),
             *(
                 Route(f"/batch/{what}", partial(answers.batch, what), methods=["POST"])
                 for what in NUMBERS
@@ -124,12 +118,12 @@ def application(service: Service) -> Addresses:
 class _Answers:
     """What the addresses answer that ask the map."""
 
-    def __init__(self, service: Service, shared: Shared) -> None:
+    def __init__(self, service: Service) -> None:
         self._service, self._served, self._limits = service, service.served, service.limits
-        self._taken, confidence, makers = shared.taken, service.confidence, shared.makers
-        self._features = features.Features(self._served, confidence, makers, shared.alone)
-        self._rows = Rows(self._served, confidence, makers)
-        self._scenes = Scenes(self._served, self._limits, confidence, makers, service.tiles)
+        self._taken, makers = service.shared.taken, service.shared.makers
+        self._features = features.Features(self._served, makers, service.shared.alone)
+        self._rows = Rows(self._served, makers)
+        self._scenes = Scenes(self._served, self._limits, makers, service.tiles)
 
     async def question(self, what: What, request: Request) -> ASGIApp:
         """The answer to a question, as the program gives it or as GeoJSON; or the lines about a few references."""
@@ -160,7 +154,7 @@ class _Answers:
     def _tag(self, question: Question, version: Version) -> str:
         """The tag of the answer of the program to a question on a version of the map."""
         asked, text, after = question
-        head = _head_of_tag(self._served.program_version(), version, asked)
+        head = _head_of_tag(self._served.program_version, version, asked)
         return tag_of(b"%b%a\n%b" % (head, after, text))
 
     def _few(self, what: What, options: Options, refs: Sequence[str], request: Request) -> ASGIApp:
@@ -197,7 +191,7 @@ class _Answers:
         options = options_of(request.scope["query_string"])
         text = record_text(reference_of(options))
         require_no_options(options)
-        tag = tag_of(f"{self._served.program_version()}\nshow\n".encode() + text)
+        tag = tag_of(f"{self._served.program_version}\nshow\n".encode() + text)
         if tag in tags_of(request):
             return unchanged(tag)
         said = await self._served.show(text)

@@ -1,25 +1,25 @@
 """One edition of a map: a version of its files, which all of its processes read."""
 
 import asyncio
-from collections.abc import Iterator
-from contextlib import contextmanager
+from collections.abc import Callable
+from functools import partial
 from pathlib import Path
+from typing import TypeVar
 
 from olr.asking.exchange import words_of_process
 from olr.asking.files import MapFiles, Version
 from olr.asking.program import PathLike, find_program
 from olr.errors import ANOTHER_MAP, MapRefused
 
+Made = TypeVar("Made")
+
 
 class Edition:
     """The files of a folder's map, as they were when the first process had read them. What takes time is done in a thread."""
 
     def __init__(self, folder: Path, program: PathLike | None = None) -> None:
-        self.name = folder.resolve().name
         self.files = MapFiles.of_folder(folder)
         self.program = find_program(program)
-        self.version: Version | None = None
-        """None until the first process has read them."""
 
     def words(self) -> list[str]:
         """The words of a process, behind the program."""
@@ -27,20 +27,15 @@ class Edition:
 
     async def found(self) -> Version:
         """The version that is there. Raises `MapRefused` if it isn't that of this edition."""
-        with _for_operators():
-            return await asyncio.to_thread(self.files.found)
+        return await self._asked(self.files.found)
 
     async def keep(self, version: Version) -> None:
         """Notes that a process has read the version that was found. Raises `MapRefused` if the files were changed meanwhile."""
-        with _for_operators():
-            await asyncio.to_thread(self.files.keep, version)
-        self.version = version
+        await self._asked(partial(self.files.keep, version))
 
-
-@contextmanager
-def _for_operators() -> Iterator[None]:
-    """Leaves out what callers in Python do about a map that has changed: it goes to the log of a server."""
-    try:
-        yield
-    except MapRefused as error:
-        raise MapRefused(str(error).removesuffix(ANOTHER_MAP)) from error
+    async def _asked(self, call: Callable[[], Made]) -> Made:
+        """What a call of the files answers. Its error goes to the log of a server: what callers in Python do about it is left out."""
+        try:
+            return await asyncio.to_thread(call)
+        except MapRefused as error:
+            raise MapRefused(str(error).removesuffix(ANOTHER_MAP)) from error

@@ -2,10 +2,9 @@
 
 from contextlib import nullcontext
 from functools import lru_cache
-from typing import IO, TYPE_CHECKING, NamedTuple
+from typing import IO, NamedTuple
 
 from olr.asking.exchange import Asked
-from olr.model.fault import Fault
 from olr.model.questions import TOLERANCES
 from olr.serving.accepting import MOST_REMEMBERED, weights_of
 from olr.serving.judging import listing_of
@@ -13,11 +12,8 @@ from olr.serving.limits import PAGE_ALONE
 from olr.serving.makers import Makers
 from olr.serving.queries import Question
 from olr.serving.rooms import Room
-from olr.serving.served import Served, Versions, of_one_edition
-from olr.serving.tasks import FeaturesTask, JudgedBy
-
-if TYPE_CHECKING:
-    from olr.confidence.confidence import Confidence
+from olr.serving.served import Asking, Served, of_one_edition
+from olr.serving.tasks import FeaturesTask
 
 MEDIA_TYPE = "application/geo+json"
 OF_LINES = "application/geo+json-seq"
@@ -41,7 +37,6 @@ class Features(NamedTuple):
     """Makes GeoJSON of a map."""
 
     served: Served
-    confidence: "Confidence | None"
     makers: Makers
     alone: Room
     """Of one at a time, for those that may be large."""
@@ -55,24 +50,16 @@ class Features(NamedTuple):
 
     async def _made(self, question: Question) -> IO[bytes]:
         """As `of`."""
-        judged_by = JudgedBy(question.asked, self.confidence)
+        judged_by = self.makers.judging(question.asked)
         asked = question
         if question.asked.what == "places":
             asked = question._replace(asked=listing_of(question.asked))
 
-        async def ask(versions: Versions) -> IO[bytes]:
-            known = await self.served.answer(asked)
-            versions.note(known)
-            counted: bytes | Fault
-            try:
-                counts = await self.served.answer(_candidates(question))
-            except Fault as fault:
-                counted = fault
-            else:
-                versions.note(counts)
-                counted = counts.json
-            task = FeaturesTask(judged_by, question.text.decode(), known.json, counted)
-            return await self.makers.made(versions.map(), task)
+        async def ask(asking: Asking) -> IO[bytes]:
+            answer = await asking.answer(asked)
+            candidates = await asking.answer_or_fault(_candidates(question))
+            task = FeaturesTask(judged_by, question.text.decode(), answer, candidates)
+            return await self.makers.made(asking.map(), task)
 
         return await of_one_edition(self.served, ask)
 

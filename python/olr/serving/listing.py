@@ -50,7 +50,3 @@ def main(words: list[str]) -> int:
         text = f"{NAME} has more values than are read at once: give it as lines, or match the file by olr-tools match"
     sys.stderr.write(text)
     return 1
-
-
-if __name__ == "__main__":
-    sys.exit(main(sys.argv[1:]))

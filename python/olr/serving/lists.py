@@ -3,7 +3,6 @@
 import asyncio
 import json
 import logging
-import sys
 from asyncio.subprocess import PIPE
 from collections.abc import AsyncIterator
 from contextlib import asynccontextmanager
@@ -13,14 +12,14 @@ from tempfile import SpooledTemporaryFile
 from typing import IO
 
 from olr.asking.exchange import AnswerTooLarge
-from olr.asking.starting import command_of, kill_group_of
+from olr.asking.starting import kill_group_of
 from olr.messages.message import BASE64, FORMATS, TABLES, Reading
 from olr.serving.limits import MIB, MOST_ANSWER, MOST_SAID, Limits
 from olr.serving.peers import Shares, client_of
 from olr.serving.problems import Problem, bad_request, busy
 from olr.serving.queries import Options, options_of
 from olr.serving.rooms import Room
-from olr.serving.runs import python_words
+from olr.serving.runs import python_command
 
 MEDIA_TYPE = "application/x-ndjson"
 MOST_BYTES = 16 * MIB
@@ -98,9 +97,8 @@ class Lists:
 async def _read(file: IO[bytes], reading: Reading, seconds: float) -> tuple[int, bytes, bytes]:
     """The status, the lines and the error of a process that reads a list. It is killed after so many seconds, and where this is cancelled.
     Raises `TimeoutError`, `ProgramNotFound` and `AnswerTooLarge`."""
-    words = [*python_words("olr.serving.listing"), json.dumps(reading)]
     process = await asyncio.create_subprocess_exec(
-        *command_of(sys.executable, words),
+        *python_command("olr.serving.listing", json.dumps(reading)),
         stdin=file.fileno(),
         stdout=PIPE,
         stderr=PIPE,

@@ -8,20 +8,23 @@ import logging
 import os
 import pickle
 import socket
-import sys
 from asyncio.subprocess import DEVNULL, Process
 from contextlib import ExitStack, suppress
 from tempfile import TemporaryFile
-from typing import IO, NamedTuple
+from typing import IO, TYPE_CHECKING, NamedTuple
 
-from olr.asking.starting import command_of, kill_group_of
+from olr.asking.exchange import Asked
+from olr.asking.starting import kill_group_of
 from olr.errors import ProgramEnded
 from olr.serving.files import not_kept
 from olr.serving.limits import MIB, MOST_MADE, Limits
 from olr.serving.problems import Problem
 from olr.serving.rooms import Room
-from olr.serving.runs import python_words
-from olr.serving.tasks import MOST_MESSAGE, MapVersion, Task
+from olr.serving.runs import python_command
+from olr.serving.tasks import MOST_MESSAGE, JudgedBy, MapVersion, Task
+
+if TYPE_CHECKING:
+    from olr.confidence.confidence import Confidence
 
 log = logging.getLogger("olr.serving")
 SECONDS_WAITING = 2.0
@@ -33,11 +36,17 @@ MOST_KEPT = MIB
 class Makers:
     """The maker, which is started when it is first needed, and those of its processes that wait for something to make."""
 
-    def __init__(self, limits: Limits) -> None:
+    def __init__(self, limits: Limits, confidence: "Confidence | None" = None) -> None:
+        """`confidence` is by what places are judged: None for that of the package."""
+        self._confidence = confidence
         self._room = Room(limits.time)
         self._maker: "_Maker | None" = None
         self._starting = asyncio.Lock()
         self._idle: "list[_Forked]" = []
+
+    def judging(self, asked: Asked) -> JudgedBy:
+        """By what places are judged where this is asked for."""
+        return JudgedBy(asked, self._confidence)
 
     async def made(self, map: MapVersion, task: Task) -> IO[bytes]:
         """A file with the answer to a task. Where this is cancelled its process ends. Raises `ToolError`: `MapRefused` if the files of the map
@@ -126,8 +135,10 @@ class Makers:
                 try:
                     return self._maker.send(message, theirs)
                 except ConnectionError:
+                    # Who waits for its end may leave.
+                    ended, self._maker = self._maker, None
                     text = "what makes GeoJSON and scenes ended with the status %d, and is started anew"
-                    log.warning(text, await self._maker.ended())
+                    log.warning(text, await ended.ended())
             self._maker = await _Maker.started()
             self._maker.send(message, theirs)
 
@@ -143,9 +154,11 @@ class _Maker(NamedTuple):
         """A new one. Raises `OSError`."""
         ours, theirs = _sockets()
         with theirs:
-            command = command_of(sys.executable, python_words("olr.serving.maker"))
             process = await asyncio.create_subprocess_exec(
-                *command, stdin=theirs.fileno(), stdout=DEVNULL, start_new_session=True
+                *python_command("olr.serving.maker"),
+                stdin=theirs.fileno(),
+                stdout=DEVNULL,
+                start_new_session=True,
             )
         return cls(process, ours)
 

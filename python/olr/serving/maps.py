@@ -8,7 +8,7 @@ from starlette.types import ASGIApp, Receive, Scope, Send
 from typing import NamedTuple
 
 from olr.errors import ToolError
-from olr.serving.served import Living
+from olr.serving.served import Served
 
 ALONE = ""
 """The name of a map that has none, as it is the only one."""
@@ -17,7 +17,7 @@ ALONE = ""
 class Together(NamedTuple):
     """Maps that are opened, read anew and closed together."""
 
-    maps: Mapping[str, Living]
+    maps: Mapping[str, Served]
     """By their names."""
 
     async def open(self) -> None:
@@ -39,23 +39,12 @@ class Together(NamedTuple):
         for one in self.maps.values():
             await one.renew()
 
-    def sizes(self) -> dict[str, int]:
-        """How many processes there are of all, and requests that wait."""
+    def figures(self) -> Counter[str]:
+        """Those of all."""
         found: Counter[str] = Counter()
         for one in self.maps.values():
-            found.update(one.sizes())
-        return dict(found)
-
-    def starts(self) -> int:
-        """How many processes were started."""
-        return sum(one.starts() for one in self.maps.values())
-
-    def restarts(self) -> dict[str, int]:
-        """How many processes ended that weren't told to, by the reason."""
-        found: Counter[str] = Counter()
-        for one in self.maps.values():
-            found.update(one.restarts())
-        return dict(found)
+            found.update(one.figures())
+        return found
 
 
 class ByName:

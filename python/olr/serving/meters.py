@@ -1,14 +1,15 @@
 """What is counted, in the text form of Prometheus."""
 
+from collections.abc import Callable, Mapping
 from functools import cache
 from prometheus_client import CollectorRegistry, Counter, Histogram, generate_latest
 from prometheus_client.core import CounterMetricFamily, GaugeMetricFamily
 from prometheus_client.registry import Collector
 
-from olr.serving.served import Living
-
 MEDIA_TYPE = "text/plain; version=0.0.4; charset=utf-8"
 SECONDS = (0.001, 0.0025, 0.005, 0.01, 0.025, 0.05, 0.1, 0.25, 0.5, 1, 2.5, 5, 10, 30)
+Figures = Callable[[], Mapping[str, int]]
+"""What a map knows of its processes. See `Served.figures`."""
 OTHER = "other"
 """Stands for all addresses that aren't there."""
 
@@ -16,31 +17,31 @@ OTHER = "other"
 class _Processes(Collector):
     """What a map knows of its processes, as it is when it is asked."""
 
-    def __init__(self, served: Living) -> None:
-        self._served = served
+    def __init__(self, figures: Figures) -> None:
+        self._figures = figures
 
     def collect(self) -> "list[GaugeMetricFamily | CounterMetricFamily]":
         """The figures."""
-        sizes = dict(self._served.sizes())
+        figures = self._figures()
         waiting = GaugeMetricFamily("olr_waiting_requests", "Requests that wait for a process")
-        waiting.add_metric([], sizes.pop("waiting"))
+        waiting.add_metric([], figures.get("waiting", 0))
         processes = GaugeMetricFamily("olr_processes", "Processes of the program", labels=["state"])
-        for state, number in sizes.items():
-            processes.add_metric([state], number)
+        for state in ("working", "idle"):
+            processes.add_metric([state], figures.get(state, 0))
         starts = CounterMetricFamily("olr_starts", "Processes that were started")
-        starts.add_metric([], self._served.starts())
+        starts.add_metric([], figures.get("starts", 0))
         restarts = CounterMetricFamily(
             "olr_restarts", "Processes that ended without being told to", labels=["reason"]
         )
         for reason in ("ended", "map", "time"):
-            restarts.add_metric([reason], self._served.restarts().get(reason, 0))
+            restarts.add_metric([reason], figures.get(reason, 0))
         return [waiting, processes, starts, restarts]
 
 
 class Meters:
     """Requests by address and status, faults by name, times, and processes."""
 
-    def __init__(self, served: Living) -> None:
+    def __init__(self, figures: Figures) -> None:
         self._registry = CollectorRegistry()
         requests = Counter(
             "olr_requests",
@@ -58,7 +59,7 @@ class Meters:
             buckets=SECONDS,
             registry=self._registry,
         )
-        self._registry.register(_Processes(served))
+        self._registry.register(_Processes(figures))
         # Addresses and statuses are few, and to look a meter up takes as long as to count.
         self._requests_of, self._seconds_of = cache(requests.labels), cache(seconds.labels)
 

@@ -42,10 +42,8 @@ class Pool:
         self.edition, self.limits, self.clock = edition, limits, clock
         self.trouble: ToolError | None = None
         """Why the last process that was started didn't read the map, or why none can be: None if all is well."""
-        self.restarts: Counter[str] = Counter()
-        """How many processes ended that weren't told to, by the reason."""
-        self.starts = 0
-        """How many processes were started."""
+        self._counts: Counter[str] = Counter()
+        """The starts of processes, and how many ended that weren't told to, by the reason."""
         self._workers, self._share = workers, max(1, workers - 1)
         self._there: list[Process] = []
         self._waiting = Waiting()
@@ -53,11 +51,11 @@ class Pool:
         self._starts_from = clock()
         self._is_looking = self._is_open = self._is_closed = False
 
-    def sizes(self) -> dict[str, int]:
-        """How many processes there are, by what they do, and how many requests wait."""
+    def figures(self) -> Counter[str]:
+        """See `Served.figures`."""
         working = sum(1 for one in self._there if one.requests)
-        idle = len(self._there) - working
-        return {"working": working, "idle": idle, "waiting": len(self._waiting)}
+        idle, waiting = len(self._there) - working, len(self._waiting)
+        return self._counts + Counter(working=working, idle=idle, waiting=waiting)
 
     def is_able(self) -> bool:
         """Whether a process can be expected to answer."""
@@ -93,7 +91,7 @@ class Pool:
         for process in list(self._there):
             if process.works_for(limit):
                 log.warning("a process was ended: olr answered nothing for %g seconds", limit)
-                self.restarts["time"] += 1
+                self._counts["time"] += 1
                 error = TimedOut(f"olr answered nothing for {limit:g} seconds", None)
                 process.requests[0].refuse(error)
                 self._give_up(process)
@@ -116,8 +114,7 @@ class Pool:
     async def renew(self, edition: Edition) -> None:
         """Goes over to another edition, once a process has read it. Then those of the one before answer what they were asked, and end.
         Raises `ToolError`: then all is as it was."""
-        self.starts += 1
-        process = Process(edition, self)
+        process = self._made(edition)
         await process.start()
         self.edition, self.trouble = edition, None
         for one in list(self._there):
@@ -190,9 +187,14 @@ class Pool:
             return False
         return all(one.is_ready for one in self._there) and self._starts_from <= self.clock()
 
+    def _made(self, edition: Edition) -> Process:
+        """A process, which is to be started."""
+        self._counts["starts"] += 1
+        return Process(edition, self)
+
     def _new(self) -> Process:
-        process = Process(self.edition, self)
-        self.starts += 1
+        """One more of those that are asked."""
+        process = self._made(self.edition)
         self._there.append(process)
         return process
 
@@ -230,7 +232,7 @@ class Pool:
         if process not in self._there:
             return
         self._there.remove(process)
-        self.restarts[_reason(error)] += 1
+        self._counts[_reason(error)] += 1
         if self._is_open and not isinstance(error, MapRefused):
             log.warning("a process ended: %s", error)
         if process.requests:

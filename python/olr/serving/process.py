@@ -6,15 +6,19 @@
 import asyncio
 from asyncio.subprocess import PIPE
 from collections import deque
-from typing import NamedTuple, Protocol, cast
+from typing import TYPE_CHECKING, NamedTuple, cast
 
 from olr.asking.exchange import AnswerTooLarge, Exchange, UnknownWords, record_about
+from olr.asking.files import Version
 from olr.asking.starting import command_of, kill_group_of, not_started
 from olr.errors import ProgramEnded, TimedOut, ToolError
+from olr.model.fault import Fault
 from olr.model.objects import RawLine
-from olr.progress import Clock
 from olr.serving.edition import Edition
 from olr.serving.limits import ABREAST, MOST_ANSWER, MOST_SAID, SECONDS_TO_READ
+
+if TYPE_CHECKING:
+    from olr.serving.pool import Pool
 
 STDOUT, STDERR = 1, 2
 PROBE = record_about(["show"], b"probe")
@@ -33,7 +37,14 @@ class Answer(NamedTuple):
     json: bytes
     """The answer, `null` where there is a fault."""
     fault: str | None
-    edition: Edition
+    version: Version
+    """That of the map."""
+
+    def or_fault(self) -> "Answer":
+        """It, if there is one. Raises `Fault`."""
+        if self.fault is not None:
+            raise Fault(self.fault)
+        return self
 
 
 class Request:
@@ -71,24 +82,12 @@ class Request:
             self.refuse(error)
 
 
-class Owner(Protocol):
-    """Who owns a process."""
-
-    clock: Clock
-    """By which it is said since when a process works."""
-
-    def became_free(self, process: "Process") -> None:
-        """It has given an answer."""
-
-    def has_ended(self, process: "Process", error: ToolError) -> None:
-        """It has ended, or couldn't be started. What it left is in its `requests`."""
-
-
 class Process(asyncio.SubprocessProtocol):
     """A process. Its records are answered in their order; each has its number as its key, and its line has to have the same one."""
 
-    def __init__(self, edition: Edition, owner: Owner) -> None:
-        """It is started by `start`."""
+    def __init__(self, edition: Edition, owner: "Pool") -> None:
+        """It is started by `start`. The owner hears when it has given an answer, and when it has ended or couldn't be started: what it left
+        is in its `requests`."""
         self.edition = edition
         self.requests: deque[Request] = deque()
         """Those without an answer. The process works at the first one, and may have some that another process is to answer by now."""
@@ -100,6 +99,7 @@ class Process(asyncio.SubprocessProtocol):
         """Since when it works at the first request."""
         self._owner = owner
         self._loop = asyncio.get_running_loop()
+        self._version = Version(None, None)
         self._map_is_read: asyncio.Future[None] = self._loop.create_future()
         self._ended: asyncio.Future[None] = self._loop.create_future()
         self._transport: asyncio.SubprocessTransport | None = None
@@ -122,7 +122,7 @@ class Process(asyncio.SubprocessProtocol):
         self.is_ready = True
 
     async def _start(self) -> None:
-        version = await self.edition.found()
+        self._version = await self.edition.found()
         program = self.edition.program
         command = command_of(program, self.edition.words())
         try:
@@ -139,7 +139,7 @@ class Process(asyncio.SubprocessProtocol):
                 await asyncio.shield(self._map_is_read)
         except TimeoutError as error:
             raise TimedOut(f"olr didn't read the map in {SECONDS_TO_READ:g} seconds") from error
-        await self.edition.keep(version)
+        await self.edition.keep(self._version)
         if self._error is not None:
             raise self._error
 
@@ -220,7 +220,7 @@ class Process(asyncio.SubprocessProtocol):
         if line.record == 1:
             self._map_is_read.set_result(None)
             return
-        self.requests.popleft().give(Answer(line.answer, line.fault, self.edition))
+        self.requests.popleft().give(Answer(line.answer, line.fault, self._version))
         self.working_since = self._owner.clock()
         self._owner.became_free(self)
 

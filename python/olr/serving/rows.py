@@ -5,7 +5,7 @@ What the program answered while the lines before were made is judged next: so no
 
 from collections.abc import AsyncGenerator, Iterator, Sequence
 from contextlib import aclosing
-from typing import TYPE_CHECKING, NamedTuple
+from typing import NamedTuple
 
 from olr.asking.files import Version
 from olr.asking.exchange import Asked
@@ -15,10 +15,7 @@ from olr.serving.judging import listing_of
 from olr.serving.limits import MIB
 from olr.serving.makers import Makers
 from olr.serving.served import Served
-from olr.serving.tasks import Form, JudgedBy, LinesTask, MapVersion
-
-if TYPE_CHECKING:
-    from olr.confidence.confidence import Confidence
+from olr.serving.tasks import Form, LinesTask, MapVersion
 
 MOST_BYTES = MIB
 """Of the program's answers in a lot, unless one alone has more."""
@@ -28,13 +25,12 @@ class Rows(NamedTuple):
     """Makes lines of a map."""
 
     served: Served
-    confidence: "Confidence | None"
     makers: Makers
 
     async def lines(self, form: Form, asked: Asked, body: Records) -> AsyncGenerator[bytes, None]:
         """The lines about the records of a body, in pieces. Raises as `Makers.made` and `Served.batch`."""
         listed = listing_of(asked) if asked.what == "places" else asked
-        judged_by = JudgedBy(asked, self.confidence)
+        judged_by = self.makers.judging(asked)
         async with aclosing(self.served.batch(listed, body)) as answered:
             map = MapVersion(self.served.files(), self.served.version() or Version(None, None))
             async for some in answered:

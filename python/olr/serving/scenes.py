@@ -1,6 +1,6 @@
 """All that a page draws of a reference, as JSON: `olr.pages.view.scene` says what."""
 
-from typing import IO, TYPE_CHECKING, NamedTuple
+from typing import IO, NamedTuple
 
 from olr.model.fault import Fault
 from olr.model.profiles import PROFILE
@@ -9,11 +9,8 @@ from olr.serving.judging import listing_of
 from olr.serving.limits import Limits
 from olr.serving.makers import Makers
 from olr.serving.queries import Options, Question, asked_of, reference_of
-from olr.serving.served import Served, Versions, of_one_edition
-from olr.serving.tasks import JudgedBy, SceneTask
-
-if TYPE_CHECKING:
-    from olr.confidence.confidence import Confidence
+from olr.serving.served import Asking, Served, of_one_edition
+from olr.serving.tasks import SceneTask
 
 NO_PLACES, NO_MATCHINGS = b'"places":[]', b'"matchings":[]'
 """What answers have that found nothing."""
@@ -24,7 +21,6 @@ class Scenes(NamedTuple):
 
     served: Served
     limits: Limits
-    confidence: "Confidence | None"
     makers: Makers
     tiles: str | None
 
@@ -36,29 +32,35 @@ class Scenes(NamedTuple):
         asked = asked_of("places", options, self.limits.look)
         said = await self.served.show(text)
 
-        async def ask(versions: Versions) -> IO[bytes]:
-            asking = _Asking(self.served, versions, options, self.limits, text)
-            candidates = await asking.answer("candidates")
-            places = await asking.answer("places")
-            page = await asking.answer("match")
-            why = None if _fits(places, page) else await asking.answer("why")
-            if isinstance(why, Fault):
-                raise why
+        async def ask(asking: Asking) -> IO[bytes]:
+            candidates = await asking.answer_or_fault(self._question("candidates", options, text))
+            places = await asking.answer_or_fault(self._question("places", options, text))
+            page = await asking.answer_or_fault(self._question("match", options, text))
+            why = None
+            if not _fits(places, page):
+                why = await asking.answer(self._question("why", options, text))
             task = SceneTask(
-                JudgedBy(asked, self.confidence),
+                self.makers.judging(asked),
                 text.decode(),
                 said,
                 candidates,
                 places,
                 page,
                 why,
-                versions.are_one(),
-                self.served.map_name(),
+                len(asking.versions) == 1,
+                self.served.map_name,
                 self.tiles,
             )
-            return await self.makers.made(versions.map(), task)
+            return await self.makers.made(asking.map(), task)
 
         return await of_one_edition(self.served, ask)
+
+    def _question(self, what: What, options: Options, text: bytes) -> Question:
+        """A question about a reference, with those of the options that it has."""
+        names = {PROFILE, *TOLERANCES, *NUMBERS[what]}
+        own = {name: value for name, value in options.items() if name in names}
+        asked = asked_of(what, own, self.limits.look)
+        return Question(listing_of(asked) if what == "places" else asked, text, None)
 
 
 def _fits(places: bytes | Fault, page: bytes | Fault) -> bool:
@@ -66,26 +68,3 @@ def _fits(places: bytes | Fault, page: bytes | Fault) -> bool:
     if isinstance(places, Fault) or isinstance(page, Fault):
         return False
     return NO_PLACES not in places or NO_MATCHINGS not in page
-
-
-class _Asking(NamedTuple):
-    """Asks questions about one reference."""
-
-    served: Served
-    versions: Versions
-    options: Options
-    limits: Limits
-    text: bytes
-
-    async def answer(self, what: What) -> bytes | Fault:
-        """The answer to a question, or why there is none. Raises as `Served.answer`."""
-        names = {PROFILE, *TOLERANCES, *NUMBERS[what]}
-        own = {name: value for name, value in self.options.items() if name in names}
-        asked = asked_of(what, own, self.limits.look)
-        question = Question(listing_of(asked) if what == "places" else asked, self.text, None)
-        try:
-            known = await self.served.answer(question)
-        except Fault as fault:
-            return fault
-        self.versions.note(known)
-        return known.json

@@ -21,11 +21,12 @@ from olr.serving.folder_map import FolderMap
 from olr.serving.front import Front
 from olr.serving.limits import SECONDS_IDLE, SECONDS_TO_END, Limits
 from olr.serving.listening import Sockets, listen, sockets_for, url_of
+from olr.serving.makers import Makers
 from olr.serving.maps import ALONE, ByName, Together
 from olr.serving.meters import Meters
 from olr.serving.pages import policy_of
 from olr.serving.peers import Peers
-from olr.serving.served import Living, Served
+from olr.serving.served import Served
 from olr.serving.uvicorn_parts import UvicornServer
 
 if TYPE_CHECKING:
@@ -68,11 +69,10 @@ async def _serve(settings: Settings) -> None:
     asyncio.get_running_loop().add_signal_handler(signal.SIGHUP, lambda: None)
     sockets = sockets_for(settings.workers * len(settings.maps))
     listening = listen(settings.host, settings.port, sockets.backlog)
-    served = {name: _served(map, settings) for name, map in settings.maps.items()}
-    together = Together(served)
+    together = Together({name: _served(map, settings) for name, map in settings.maps.items()})
     try:
         await together.open()
-        await _answer(settings, served, together, listening, sockets)
+        await _answer(settings, together, listening, sockets)
     finally:
         listening.close()
         await together.close()
@@ -97,25 +97,20 @@ def _confidence(settings: Settings) -> "Confidence | None":
 
 
 async def _answer(
-    settings: Settings,
-    maps: Mapping[str, Served],
-    served: Living,
-    listening: socket.socket,
-    sockets: Sockets,
+    settings: Settings, together: Together, listening: socket.socket, sockets: Sockets
 ) -> None:
     """Answers what comes, until a signal ends it."""
     port = listening.getsockname()[1]
-    meters = Meters(served)
-    shared = Shared.of(settings.limits)
+    maps, meters = together.maps, Meters(together.figures)
+    makers = Makers(settings.limits, _confidence(settings))
     service = Service(
         next(iter(maps.values())),
         settings.limits,
         meters,
-        _confidence(settings),
+        Shared.of(settings.limits, makers),
         settings.tiles,
         lambda: bool(server.should_exit),
         maps,
-        shared,
     )
     apps = {name: application(service._replace(served=one)) for name, one in maps.items()}
     app = apps.get(ALONE) or ByName(apps)
@@ -131,7 +126,7 @@ async def _answer(
     )
     config = _config(settings, front, connections, sockets.backlog)
     server = UvicornServer(config, url_of(settings.host, port), SECONDS_TO_END)
-    renewing = _handle_signals(server, served)
+    renewing = _handle_signals(server, together)
     watching = [asyncio.create_task(work) for work in (connections.watch(), logs.watch())]
     try:
         await server.serve(sockets=[listening])
@@ -140,12 +135,12 @@ async def _answer(
             task.cancel()
         # What isn't answered by now is left: its connection is closed, and its process ends.
         connections.close()
-        await served.close()
-        await shared.makers.close()
+        await together.close()
+        await makers.close()
         await server.wait_for_left(1)
 
 
-def _handle_signals(server: UvicornServer, served: Living) -> "set[asyncio.Task[None]]":
+def _handle_signals(server: UvicornServer, maps: Together) -> "set[asyncio.Task[None]]":
     """Lets SIGTERM and SIGINT end the server, a second one at once, and SIGHUP read the map anew. The answer has the tasks that do so."""
     loop = asyncio.get_running_loop()
     for ending in (signal.SIGINT, signal.SIGTERM):
@@ -153,7 +148,7 @@ def _handle_signals(server: UvicornServer, served: Living) -> "set[asyncio.Task[
     renewing: "set[asyncio.Task[None]]" = set()
 
     def renew() -> None:
-        task = loop.create_task(served.renew())
+        task = loop.create_task(maps.renew())
         renewing.add(task)
         task.add_done_callback(renewing.discard)
 

@@ -8,6 +8,7 @@ import asyncio
 import logging
 from collections.abc import AsyncGenerator, AsyncIterator, Callable, Mapping, Sequence
 from contextlib import aclosing
+from functools import partial
 from starlette.requests import Request
 from starlette.types import ASGIApp, Receive, Scope, Send
 
@@ -54,11 +55,7 @@ class Streaming:
 
     def about(self, asked: Asked, records: Sequence[Record]) -> ASGIApp:
         """What answers a request about known records, whose options are known."""
-
-        async def answer(scope: Scope, receive: Receive, send: Send) -> None:
-            await self._answer(asked, records, scope, receive, send)
-
-        return answer
+        return partial(self._answer, asked, records)
 
     async def _answer(
         self,
