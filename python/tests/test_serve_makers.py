@@ -132,7 +132,8 @@ def test_a_client_that_leaves_while_the_maker_ends(
             await asyncio.sleep(0.05)
         (maker,) = makers_of(os.getpid())
         os.kill(maker, signal.SIGKILL)
-        while makers_of(os.getpid()):
+        # A process that is killed has no words any more, but may have its sockets still, until it is waited for.
+        while Path(f"/proc/{maker}").exists():
             await asyncio.sleep(0.05)
         is_waited_for = asyncio.Event()
 
