@@ -1,5 +1,5 @@
 -- The line of a record, from the answer to its text.
-use Rattle.olr_batch.proofs.Common.{◌≡◌, ℕ, Bool, false, List, ◌++◌, Option, None, Ok, Err, Bor, codes, ap, ap₂, ◌∙◌, refl, subst, inl, inr, Data, compact_text, RoadMap, line_text, IsLineOfText, Records}
+use Rattle.olr_batch.proofs.Common.{◌≡◌, ℕ, Bool, false, List, ◌++◌, Option, None, Ok, Bor, codes, ap, ap₂, ◌∙◌, refl, subst, inl, inr, Data, compact_text, RoadMap, line_text, IsLineOfText, Records}
 use Rattle.std.specs.Prelude.{if◌then◌else◌}
 use Rattle.olr_binary.specs.Json.{reference_object}
 use Rattle.olr_candidates.specs.declared.tolerances.Tolerances.{Tolerances}
@@ -74,15 +74,15 @@ module _ (road : RoadMap) (accepted : Accepted) (output : List ℕ) where
       let ask = asked.2 in
       elim ask.asks [
         | inl show ↦ of_show ask.given.text request
-            (show.1 ∙ ap (λ (format : Format). Show ask.given.text format) ask.given_by.json) is
+            (show.1 ∙ ap (λ (format : Format). Show ask.given.text format) ask.given_by.by.json) is
         | inr asks ↦
             let question = asks.2.question in
             of_question question.what question.tolerances ask.given.text ask.given.after
             (subst Answers (asks.2.asks
             ∙ ap₂ (λ (pages : Pages) (format : Format). request_for question.what
             question.tolerances ask.given.text pages format)
-            (ap (λ (all : Bool). if all then All else One ask.given.after) ask.given_by.one_page)
-            ask.given_by.json) is)
+            (ap (λ (all : Bool). if all then All else One ask.given.after) ask.given_by.by.one_page)
+            ask.given_by.by.json) is)
       ]
 
 module _ (records : Records) (road : RoadMap) (text : List ℕ) where

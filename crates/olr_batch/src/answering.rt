@@ -15,7 +15,7 @@ use olr_app::{Fault, MapForRequests, Sink, Source, put_whole};
 use olr_base::{Failed, NoMemory};
 use olr_messages::Messages;
 use olr_road::Map;
-use olr_words::Records;
+use olr_words::{LastQuestion, Records};
 use std::alloc::Global;
 
 /// How many bytes a line takes at most that has a fault in place of an answer. Its key and the words
@@ -179,6 +179,7 @@ pub fn answer_records<S: Source, O: Sink>(
     let mut on = RecordsOnMap {
         records,
         map: MapForRequests::new(map),
+        last: LastQuestion::none(),
     };
     Answering::new(alloc)?.all(&mut on, input, out)?;
     Ok(())

@@ -6,7 +6,7 @@ ghost use Rattle.olr_batch.specs.Answers.{IsFaultFor, IsReply};
 ghost use Rattle.olr_words.specs.declared.words.Records.TheVariants.{References, Requests};
 
 use olr_app::{Format, MapForRequests, Pages, Question, Request};
-use olr_words::{RecordFault, Records, request_of_record, words_of_record};
+use olr_words::{LastQuestion, RecordFault, Records, request_of_record, words_of_record};
 use std::alloc::Global;
 
 /// What the texts of records are, on the map that they are answered on.
@@ -16,6 +16,8 @@ pub(crate) struct RecordsOnMap<'a> {
     pub records: &'a Records,
     /// The map.
     pub map: MapForRequests<'a>,
+    /// The question that a record asked last.
+    pub last: LastQuestion,
 }
 
 /// The request that asks a question of the reference of a text. There is always one: it is a result
@@ -49,7 +51,8 @@ fn reply_to_reference(
     Ok(answer)
 }
 
-/// The answer to the request of a text.
+/// The answer to the request of a text. Words that are those of the last question aren't understood
+/// again.
 ///
 /// # Errors
 ///
@@ -57,6 +60,7 @@ fn reply_to_reference(
 fn reply_to_request(
     alloc: Global,
     on: &mut MapForRequests<'_>,
+    last: &mut LastQuestion,
     text: &str,
 ) -> Result<String, RecordFault>
     ensures map { on.new.map ≡ on.old.map }
@@ -64,8 +68,12 @@ fn reply_to_request(
         IsReply Requests on.old.map.now text.now (string_bytes answer)) }
     ensures fault { IfErr result (IsFaultFor Requests on.old.map.now text.now) }
 {
+    if let Some(request) = last.asked_again(text) {
+        let answer = on.answer(alloc, &request)?;
+        return Ok(answer);
+    }
     let words = words_of_record(alloc, text)?;
-    let request = request_of_record(alloc, words.as_slice())?;
+    let request = request_of_record(alloc, last, &words)?;
     let answer = on.answer(alloc, &request)?;
     Ok(answer)
 }
@@ -90,7 +98,7 @@ impl RecordsOnMap<'_> {
             Records::References(question) => {
                 reply_to_reference(alloc, &mut self.map, question, text)
             }
-            Records::Requests => reply_to_request(alloc, &mut self.map, text),
+            Records::Requests => reply_to_request(alloc, &mut self.map, &mut self.last, text),
         }
     }
 }

@@ -2,7 +2,7 @@ mod Common
 mod GivenTolerances
 mod TolerancesRead
 mod Tables
-mod RecordWords
+mod Dashes
 mod RecordOptions
 mod SimpleRecords
 mod Values
@@ -12,3 +12,4 @@ mod Requests
 mod OneGiven
 mod OneQuestion
 mod OneRequest
+mod AskedAgain

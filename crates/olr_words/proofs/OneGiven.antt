@@ -9,6 +9,8 @@ use Rattle.olr_words.specs.OneRequest.{placeless_pages}
 use Rattle.olr_words.specs.Options.{RecordOption}
 use Rattle.olr_words.specs.Profile.{profile_value}
 use Rattle.olr_words.specs.Record.{AreGivenBy}
+use Rattle.olr_words.specs.RecordWords.{Parts}
+use Rattle.olr_words.specs.RecordWords.{Parts}
 use Rattle.olr_words.specs.Words.{pages_of, value_of}
 use Rattle.olr_words.specs.declared.profile.Profile.{Profile}
 use Rattle.olr_words.specs.declared.profile.Profile.TheVariants.{Feed, Program}
@@ -57,9 +59,9 @@ one_page_of : (g : Given) → g.all ≡ false
 one_page_of g one = ap (λ b. placeless_pages (cond b pages.All (pages.One g.after))) one
     ∙ ap (λ cursor. pages.One cursor) (cursor_alike g.after)
 
-pub alike : (options : List RecordOption) (words : List (List ℕ)) (g h : Given)
-    → AreGivenBy options words g → AreGivenBy options words h → Alike g h
-alike options words g h by other =
+pub alike : (options : List RecordOption) (its : Parts) (g h : Given)
+    → AreGivenBy options its g → AreGivenBy options its h → Alike g h
+alike options its g h by other =
     let is = by.options_given in
     let too = other.options_given in
     record {

@@ -15,14 +15,15 @@ use Rattle.olr_request.specs.declared.request.Pages.{Pages}
 use Rattle.olr_request.specs.declared.request.Request.{Request}
 use Rattle.olr_request.specs.declared.request.Request.TheVariants.{Show}
 use Rattle.olr_words.specs.OneRequest.{AreEqual, StateTheSame, placeless, placeless_pages, stated}
-use Rattle.olr_words.specs.Record.{AreGivenBy, AreWordsOf, AskFor, AskForNothing, IsAtDashes, IsOfSubcommand, IsRequestOf, IsRequestOfWords, at_spaces, dashes, name_of}
+use Rattle.olr_words.specs.Record.{AreGivenBy, AskFor, AskForNothing, IsGivenBy, IsOfSubcommand, IsRequestOf, IsRequestOfWords, name_of}
+use Rattle.olr_words.specs.RecordWords.{ArePartsOf, IsAtDashes, Parts, at_spaces, dashes, parts}
 use Rattle.olr_words.specs.Words.{IsNameOf, IsRequest, pages_of}
 use Rattle.olr_words.specs.declared.record.RecordFault.{RecordFault}
 use Rattle.olr_words.specs.declared.record.RecordFault.TheVariants as record_fault
 use Rattle.olr_words.specs.declared.words.Given.{Given}
 use Rattle.olr_words.specs.declared.words.MapSubcommand.{MapSubcommand}
 use Rattle.olr_words.specs.declared.words.MapSubcommand.TheVariants as each
-use Rattle.std.proofs.Common.{Bor, ◌∷◌, []}
+use Rattle.std.proofs.Common.{Bor}
 use Rattle.olr_words.proofs.OneGiven.{Alike, alike}
 use Rattle.olr_words.proofs.OneQuestion.{RefusedBy, asked_or_refused, one_refused, one_tolerances, one_what, refused_by}
 
@@ -45,14 +46,14 @@ same_behind text a b c d is other = append_cancel_left dashes b d
     ∙ (ap (drop (length a)) (sym is.whole ∙ other.whole)
     ∙ drop_at c (dashes ++ d) (length a) (sym (same_length text a b c d is other))))
 
-one_words : (text : List ℕ) (a b : List (List ℕ)) → AreWordsOf text a → AreWordsOf text b → a ≡ b
-one_words text a b (inl is) (inl other) = is.1 ∙ sym other.1
-one_words text a b (inl is) (inr other) = absurd (is.0 other.0 other.1 other.2.whole)
-one_words text a b (inr is) (inl other) = absurd (other.0 is.0 is.1 is.2.whole)
-one_words text a b (inr is) (inr other) = is.3
-    ∙ (ap (λ front. at_spaces front ++ (codes "--" ∷ is.1 ∷ []))
+one_parts : (text : List ℕ) (a b : Parts) → ArePartsOf text a → ArePartsOf text b → a ≡ b
+one_parts text a b (inl is) (inl other) = is.1 ∙ sym other.1
+one_parts text a b (inl is) (inr other) = absurd (is.0 other.0 other.1 other.2.whole)
+one_parts text a b (inr is) (inl other) = absurd (other.0 is.0 is.1 is.2.whole)
+one_parts text a b (inr is) (inr other) = is.3
+    ∙ (ap (λ front. parts (at_spaces front) (Some is.1))
     (same_front text is.0 is.1 other.0 other.1 is.2 other.2)
-    ∙ (ap (λ reference. at_spaces other.0 ++ (codes "--" ∷ reference ∷ []))
+    ∙ (ap (λ reference. parts (at_spaces other.0) (Some reference))
     (same_behind text is.0 is.1 other.0 other.1 is.2 other.2) ∙ sym other.3))
 
 -- ---- the subcommand
@@ -147,55 +148,57 @@ same_asked g h alike back name (Err why) (Err unlike) is other =
 
 -- ---- what words ask for
 
-one_options : (words : List (List ℕ)) (r s : Result Request Fault) (p : AskFor words r)
-    (q : AskFor words s) → q.options ≡ p.options
-one_options words r s p q =
+one_options : (its : Parts) (g h : Given) (p : IsGivenBy its g) (q : IsGivenBy its h)
+    → q.options ≡ p.options
+one_options its g h p q =
     let same : Some q.options ≡ Some p.options = sym q.understood.named ∙ p.understood.named in cc
 
-ask_the_same : (words : List (List ℕ)) (r s : Result Request Fault) → AskFor words r
-    → AskFor words s → SameAsked r s
-ask_the_same words r s p q =
-    let other : AreGivenBy p.options words q.given =
-    subst (λ options. AreGivenBy options words q.given) (one_options words r s p q) q.given_by in
-    same_asked p.given q.given (alike p.options words p.given q.given p.given_by other)
-    (alike p.options words q.given p.given other p.given_by) (name_of words) r s p.asks q.asks
+one_given : (its : Parts) (g h : Given) → IsGivenBy its g → IsGivenBy its h → Alike g h
+one_given its g h p q = alike p.options its g h p.by
+    (subst (λ options. AreGivenBy options its h) (one_options its g h p q) q.by)
+
+ask_the_same : (its : Parts) (r s : Result Request Fault) → AskFor its r → AskFor its s
+    → SameAsked r s
+ask_the_same its r s p q = same_asked p.given q.given
+    (one_given its p.given q.given p.given_by q.given_by)
+    (one_given its q.given p.given q.given_by p.given_by) (name_of its.words) r s p.asks q.asks
 
 -- what is stated of words
-abbrev HoldsOf : List (List ℕ) → Option (Result Request Fault) → Type 0
-HoldsOf words None = AskForNothing words
-HoldsOf words (Some (Ok request)) =
-    (asked : Request) × AskFor words (Ok asked) × (request ≡ placeless asked)
-HoldsOf words (Some (Err why)) = AskFor words (Err why)
+abbrev HoldsOf : Parts → Option (Result Request Fault) → Type 0
+HoldsOf its None = AskForNothing its
+HoldsOf its (Some (Ok request)) =
+    (asked : Request) × AskFor its (Ok asked) × (request ≡ placeless asked)
+HoldsOf its (Some (Err why)) = AskFor its (Err why)
 
-holds : (words : List (List ℕ)) (r : Result Request RecordFault) → IsRequestOfWords words r
-    → IfSome (stated r) (HoldsOf words)
-holds words (Ok request) is = (request, is, refl)
-holds words (Err (record_fault.Words line)) is = is.1
-holds words (Err (record_fault.Fault fault.NoMemory)) is = tt
-holds words (Err (record_fault.Fault _)) is = is
+holds : (its : Parts) (r : Result Request RecordFault) → IsRequestOfWords its r
+    → IfSome (stated r) (HoldsOf its)
+holds its (Ok request) is = (request, is, refl)
+holds its (Err (record_fault.Words line)) is = is.1
+holds its (Err (record_fault.Fault fault.NoMemory)) is = tt
+holds its (Err (record_fault.Fault _)) is = is
 
-one_holds : (words : List (List ℕ)) (s t : Option (Result Request Fault)) → HoldsOf words s
-    → HoldsOf words t → s ≡ t
-one_holds words None None p q = refl
-one_holds words None (Some (Ok request)) p q = absurd (p q.1.options q.1.understood)
-one_holds words None (Some (Err why)) p q = absurd (p q.options q.understood)
-one_holds words (Some (Ok request)) None p q = absurd (q p.1.options p.1.understood)
-one_holds words (Some (Err why)) None p q = absurd (q p.options p.understood)
-one_holds words (Some (Ok a)) (Some (Ok b)) p q = ap (λ request. Some (Ok request))
-    (p.2 ∙ (ask_the_same words (Ok p.0) (Ok q.0) p.1 q.1 ∙ sym q.2))
-one_holds words (Some (Ok a)) (Some (Err why)) p q =
-    absurd (ask_the_same words (Ok p.0) (Err why) p.1 q)
-one_holds words (Some (Err why)) (Some (Ok b)) p q =
-    absurd (ask_the_same words (Err why) (Ok q.0) p q.1)
-one_holds words (Some (Err why)) (Some (Err other)) p q =
-    ap (λ fault. Some (Err fault)) (ask_the_same words (Err why) (Err other) p q)
+one_holds : (its : Parts) (s t : Option (Result Request Fault)) → HoldsOf its s
+    → HoldsOf its t → s ≡ t
+one_holds its None None p q = refl
+one_holds its None (Some (Ok request)) p q = absurd (p q.1.given_by.options q.1.given_by.understood)
+one_holds its None (Some (Err why)) p q = absurd (p q.given_by.options q.given_by.understood)
+one_holds its (Some (Ok request)) None p q = absurd (q p.1.given_by.options p.1.given_by.understood)
+one_holds its (Some (Err why)) None p q = absurd (q p.given_by.options p.given_by.understood)
+one_holds its (Some (Ok a)) (Some (Ok b)) p q = ap (λ request. Some (Ok request))
+    (p.2 ∙ (ask_the_same its (Ok p.0) (Ok q.0) p.1 q.1 ∙ sym q.2))
+one_holds its (Some (Ok a)) (Some (Err why)) p q =
+    absurd (ask_the_same its (Ok p.0) (Err why) p.1 q)
+one_holds its (Some (Err why)) (Some (Ok b)) p q =
+    absurd (ask_the_same its (Err why) (Ok q.0) p q.1)
+one_holds its (Some (Err why)) (Some (Err other)) p q =
+    ap (λ fault. Some (Err fault)) (ask_the_same its (Err why) (Err other) p q)
 
-one_stated : (words : List (List ℕ)) (s t : Option (Option (Result Request Fault)))
-    → IfSome s (HoldsOf words) → IfSome t (HoldsOf words)
+one_stated : (its : Parts) (s t : Option (Option (Result Request Fault)))
+    → IfSome s (HoldsOf its) → IfSome t (HoldsOf its)
     → AreEqual s t
-one_stated words None t p q = tt
-one_stated words (Some s) None p q = tt
-one_stated words (Some s) (Some t) p q = one_holds words s t p q
+one_stated its None t p q = tt
+one_stated its (Some s) None p q = tt
+one_stated its (Some s) (Some t) p q = one_holds its s t p q
 
 -- nothing is stated where memory was refused
 none_stated : (s : Option (Option (Result Request Fault))) → AreEqual s None
@@ -211,5 +214,5 @@ one_request text one other (inr is) (inl refused) =
     (none_stated (stated one))
 one_request text one other (inr is) (inr too) =
     let asked : IsRequestOfWords is.0 other =
-    subst (λ words. IsRequestOfWords words other) (one_words text too.0 is.0 too.1 is.1) too.2 in
+    subst (λ parts. IsRequestOfWords parts other) (one_parts text too.0 is.0 too.1 is.1) too.2 in
     one_stated is.0 (stated one) (stated other) (holds is.0 one is.2) (holds is.0 other asked)

@@ -13,7 +13,8 @@ use Rattle.olr_request.specs.declared.request.Request.TheVariants.{Show}
 use Rattle.olr_words.specs.Given.{IsGiven}
 use Rattle.olr_words.specs.Options.{RecordOption, options_named, options_of, subcommands}
 use Rattle.olr_words.specs.Found.{IsFoundIn}
-use Rattle.olr_words.specs.Record.{AreGivenBy, AskFor, IsOfSubcommand, IsRequestOfWords, name_of}
+use Rattle.olr_words.specs.Record.{AskFor, IsGivenBy, IsOfSubcommand, IsRequestOfWords, name_of}
+use Rattle.olr_words.specs.RecordWords.{Parts}
 use Rattle.olr_words.specs.Words.{IsNameOf, IsRefusedRequest, IsRequest}
 use Rattle.olr_words.specs.declared.record.RecordFault.TheVariants as record_fault
 use Rattle.olr_words.specs.declared.words.Given.{Given}
@@ -91,36 +92,38 @@ given_alike text_of read given is same = subst (IsGiven text_of) (sym same) (rec
   after = is.after;
 })
 
-pub given_by : (words : List (List ℕ)) (m : ArgMatches) (f : IsFoundIn words m) (read given : Given)
+pub given_by : (its : Parts) (m : ArgMatches) (f : IsFoundIn its m) (read given : Given)
     → IsGiven (first_value (found_of m)) read
     → given ≡ record read { all = false; format = Json }
-    → read.text.now ≡ unwrap_or (first_value (found_of m) (codes "REF")) []
-    → AreGivenBy f.options words given
-given_by words m f read given is same text =
-    let texts = texts_found words (name_of words) f.options m refl f.found in
+    → read.text.now ≡ unwrap_or its.reference
+    (unwrap_or (first_value (found_of m) (codes "REF")) [])
+    → IsGivenBy its given
+given_by its m f read given is same text =
+    let texts = texts_found its m f in
     record {
-      options_given = subst (λ t. IsGiven t given) texts
-          (given_alike (first_value (found_of m)) read given is same);
-      reference = ap (λ (g : Given). g.text.now) same
-          ∙ (text ∙ ap (λ t. unwrap_or (t (codes "REF")) []) texts);
-      one_page = ap (λ (g : Given). g.all) same;
-      json = ap (λ (g : Given). g.format) same;
+      options = f.options;
+      understood = f.understood;
+      by = record {
+        options_given = subst (λ t. IsGiven t given) texts
+            (given_alike (first_value (found_of m)) read given is same);
+        reference = ap (λ (g : Given). g.text.now) same
+            ∙ (text ∙ ap (λ t. unwrap_or its.reference (unwrap_or (t (codes "REF")) [])) texts);
+        one_page = ap (λ (g : Given). g.all) same;
+        json = ap (λ (g : Given). g.format) same;
+      };
     }
 
 -- ---- what is asked for
 
-pub asked : (words : List (List ℕ)) (m : ArgMatches) (f : IsFoundIn words m) (given : Given)
-    (name : List ℕ) (r : Result Request Fault) → AreGivenBy f.options words given
-    → name ≡ name_of words → IsOfSubcommand given name r → AskFor words r
-asked words m f given name r by is asks = record {
-  options = f.options;
-  understood = f.understood;
+pub asked : (its : Parts) (given : Given) (name : List ℕ) (r : Result Request Fault)
+    → IsGivenBy its given → name ≡ name_of its.words → IsOfSubcommand given name r → AskFor its r
+asked its given name r by is asks = record {
   given = given;
   given_by = by;
   asks = subst (λ n. IsOfSubcommand given n r) is asks;
 }
 
-pub fault_asked : (words : List (List ℕ)) (why : Fault) → AskFor words (Err why)
-    → IsRequestOfWords words (Err (record_fault.Fault why))
-fault_asked words fault.NoMemory asks = tt
-fault_asked words _ asks = asks
+pub fault_asked : (its : Parts) (why : Fault) → AskFor its (Err why)
+    → IsRequestOfWords its (Err (record_fault.Fault why))
+fault_asked its fault.NoMemory asks = tt
+fault_asked its _ asks = asks

@@ -4,6 +4,8 @@ pub mod Rejected
 pub mod Options
 pub mod Given
 pub mod RecordCommand
+pub mod RecordWords
 pub mod Record
 pub mod Found
 pub mod OneRequest
+pub mod LastQuestion

@@ -7,10 +7,9 @@ use Rattle.std.specs.Str.Parse.{IsNumeral, digits_value, without_leading_plus}
 
 -- ---- options
 
--- what an option takes: the text of a reference, which has no name before it; a whole number; one
--- of some words; the word `json`, since an answer to a record is JSON; or the text of a cursor
+-- what an option takes: a whole number; one of some words; the word `json`, since an answer to a
+-- record is JSON; or the text of a cursor
 pub data OptionValue : Type 0 where
-  reference : OptionValue
   number : OptionValue
   one_of : List (List ℕ) → OptionValue
   json : OptionValue
@@ -26,9 +25,8 @@ abbrev pub IsWholeNumber : List ℕ → Type 0
 IsWholeNumber text = IsNumeral 10 (without_leading_plus text)
     × (digits_value 10 (without_leading_plus text) < 2 ^ 32)
 
--- a text is such a value; a reference and a cursor are read later, with faults of their own
+-- a text is such a value; a cursor is read later, with faults of its own
 abbrev pub IsValue : OptionValue → List ℕ → Type 0
-IsValue reference text = ⊤
 IsValue number text = IsWholeNumber text
 IsValue (one_of words) text = Contains words text
 IsValue json text = text ≡ codes "json"
@@ -41,9 +39,6 @@ option_named name value = record { name = name; value = value }
 
 abbrev pub number_named : List ℕ → RecordOption
 number_named name = option_named name number
-
-abbrev pub reference_option : RecordOption
-reference_option = option_named (codes "REF") reference
 
 abbrev pub format_option : RecordOption
 format_option = option_named (codes "format") json
@@ -60,21 +55,17 @@ abbrev pub place_options : List RecordOption
 place_options = number_named (codes "apart") ∷ number_named (codes "within")
     ∷ number_named (codes "look") ∷ number_named (codes "most") ∷ []
 
--- the subcommands that a record may name, each with its options in a record
+-- the subcommands that a record may name, each with its options in a record beside the reference
 abbrev pub subcommands : List (List ℕ × List RecordOption)
-subcommands = (codes "show", reference_option ∷ format_option ∷ [])
-    ∷ (codes "candidates", reference_option ∷ format_option ∷ tolerance_options)
+subcommands = (codes "show", format_option ∷ [])
+    ∷ (codes "candidates", format_option ∷ tolerance_options)
     ∷ (
       codes "match",
-      reference_option ∷ number_named (codes "page")
+      number_named (codes "page")
           ∷ option_named (codes "after") cursor ∷ format_option ∷ tolerance_options,
     )
-    ∷ (codes "places", reference_option ∷ place_options ++ format_option ∷ tolerance_options)
-    ∷ (
-      codes "why",
-      reference_option ∷ number_named (codes "nearest") ∷ format_option
-          ∷ tolerance_options,
-    ) ∷ []
+    ∷ (codes "places", place_options ++ format_option ∷ tolerance_options)
+    ∷ (codes "why", number_named (codes "nearest") ∷ format_option ∷ tolerance_options) ∷ []
 
 -- the options in the first row of a name
 abbrev pub options_named : List (List ℕ × List RecordOption) → List ℕ → Option (List RecordOption)

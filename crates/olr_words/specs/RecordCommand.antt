@@ -1,10 +1,10 @@
 -- The command of `clap` for the words of a record, as `clap` states commands; and the options of
 -- the program that a record may have.
-use Rattle.std.specs.Prelude.{ℕ, List, ◌++◌, Option, Some, None, Bool, true, false, map, option_map}
+use Rattle.std.specs.Prelude.{ℕ, List, [], ◌∷◌, ◌++◌, Option, Some, None, Bool, true, map, option_map, codes, if◌then◌else◌}
 use Rattle.std.specs.List.{filter_map, flat_map}
 use Rattle.clap.specs.Words.{App, Rule, new_app, new_rule}
 use Rattle.clap.specs.Walk.{texts}
-use Rattle.olr_words.specs.Options.{OptionValue, RecordOption, option_named, reference, number, one_of, json, cursor}
+use Rattle.olr_words.specs.Options.{OptionValue, RecordOption, option_named, number, one_of, json, cursor}
 use Rattle.olr_words.specs.declared.command.CommandOption.{CommandOption}
 use Rattle.olr_words.specs.declared.command.Subcommand.{Subcommand}
 use Rattle.olr_words.specs.declared.command.Takes.{Takes}
@@ -12,33 +12,40 @@ use Rattle.olr_words.specs.declared.command.Takes.TheVariants as takes
 
 -- ---- the command of `clap`
 
--- an option: the reference is required and has no name before it, each other one has its name there
-abbrev pub rule_for : List ℕ → OptionValue → Rule
-rule_for name reference = record (new_rule name) { required = true }
-rule_for name value = record (new_rule name) { long = Some name }
-
+-- an option: a name with a word behind it
 abbrev pub record_rule : RecordOption → Rule
-record_rule option = rule_for option.name option.value
+record_rule option = record (new_rule option.name) { long = Some option.name }
 
--- a command without help
-abbrev pub bare_app : List ℕ → App
-bare_app name =
-    record (new_app name) { top = record (new_app name).top { disable_help_flag = true } }
+-- the reference, a word without a name before it
+abbrev pub reference_rule : Rule
+reference_rule = record (new_rule (codes "REF")) { required = true }
+
+-- A command without help, with these arguments.
+abbrev pub app_with : List ℕ → List Rule → App
+app_with name rules = record (new_app name) {
+  top = record (new_app name).top { disable_help_flag = true; rules = rules };
+}
+
+-- a command for words of which the reference is one, or for those before it
+abbrev pub bare_app : List ℕ → Bool → App
+bare_app name has_reference =
+    app_with name (if has_reference then reference_rule ∷ [] else [])
 
 -- a command with more options
 abbrev pub with_options : App → List RecordOption → App
 with_options app options =
     record app { top = record app.top { rules = app.top.rules ++ map record_rule options } }
 
--- the command for the words of a record
-abbrev pub record_app : List ℕ → List RecordOption → App
-record_app name options = with_options (bare_app name) options
+-- the command for the words of a record, of which the reference is one or isn't
+abbrev pub record_app : List ℕ → Bool → List RecordOption → App
+record_app name has_reference options = with_options (bare_app name has_reference) options
 
 -- ---- the options of the program
 
--- what an option takes in a record, if a record may have it: no file, and not all pages
+-- what an option takes in a record, if a record may have it: no file, and not all pages; the
+-- reference is no option
 abbrev pub record_value : Takes → Option OptionValue
-record_value takes.Reference = Some reference
+record_value takes.Reference = None
 record_value takes.Number = Some number
 record_value (takes.OneOf name words) = Some (one_of (texts words.now))
 record_value takes.Format = Some json
@@ -48,11 +55,6 @@ record_value takes.File = None
 record_value takes.MapFolder = None
 record_value takes.Nothing = None
 record_value takes.Words = None
-
--- it is the reference
-abbrev pub is_reference : Takes → Bool
-is_reference takes.Reference = true
-is_reference _ = false
 
 abbrev pub record_option : CommandOption → Option RecordOption
 record_option option =

@@ -3,7 +3,7 @@
 ghost use Rattle.std.specs.Prelude.{◌≡◌, Decides, IfSome, is_some, map, option_map};
 ghost use Rattle.std.specs.List.{Any};
 ghost use Rattle.olr_words.specs.Options.{IsValue, options_named, options_of};
-ghost use Rattle.olr_words.specs.RecordCommand.{is_reference, options_in, record_value, row_of};
+ghost use Rattle.olr_words.specs.RecordCommand.{options_in, record_value, row_of};
 
 use crate::profile::Profile;
 use clap::{Arg, ArgAction, ArgGroup, Command, Error};
@@ -65,23 +65,15 @@ impl CommandOption {
         matches!(self.takes, Takes::Number)
     }
 
-    /// Whether a record may have it: it names no file, and doesn't ask for several pages.
+    /// Whether it is an option that a record may have: it names no file, and doesn't ask for several
+    /// pages.
     pub fn is_of_record(&self) -> bool
         ensures { result ≡ is_some (record_value self.now.takes) }
     {
-        match self.takes {
-            Takes::Reference | Takes::Number | Takes::OneOf(_, _) | Takes::Format | Takes::Cursor =>
-                true,
-            Takes::MapFile(_) | Takes::File | Takes::MapFolder | Takes::Nothing | Takes::Words =>
-                false,
-        }
-    }
-
-    /// Whether it is the reference, which has no name before it.
-    pub fn is_reference(&self) -> bool
-        ensures { result ≡ is_reference self.now.takes }
-    {
-        matches!(self.takes, Takes::Reference)
+        matches!(
+            self.takes,
+            Takes::Number | Takes::OneOf(_, _) | Takes::Format | Takes::Cursor
+        )
     }
 
     /// Whether it takes a text in a record. The format of a record's answer is JSON.

@@ -3,8 +3,10 @@
 //! - [`command`]: the subcommands, options and texts of help, as `clap` takes them.
 //! - [`words`]: what the words ask for: a request or many records, and the files that they read; or
 //!   what a fault means.
-//! - [`record`]: the words of a record, and the request that they ask for; [`record_command`]: the
-//!   options that they may have, as `clap` takes them.
+//! - [`record_words`]: the words of a record, and the reference behind them.
+//! - [`record`]: the request that they ask for; [`record_command`]: the options that they may have, as
+//!   `clap` takes them; [`last_question`]: the question that was asked last, which needn't be
+//!   understood again.
 //! - [`hints`]: what words that aren't understood are rejected with, where it can be said what to
 //!   write instead.
 //! - [`profile`]: the tolerances that stand for those which the words don't give.
@@ -13,12 +15,16 @@
 
 mod command;
 mod hints;
+mod last_question;
 mod profile;
 mod record;
 mod record_command;
+mod record_words;
 mod rejected;
 mod words;
 
+pub use last_question::LastQuestion;
 pub use record::{RecordFault, one_request_of_record, request_of_record, words_of_record};
+pub use record_words::RecordWords;
 pub use rejected::Rejected;
 pub use words::{Asked, Files, Input, Records, asked_of};

@@ -1,14 +1,16 @@
 //! From the text of a record to the request that its words ask for.
 
 ghost use Rattle.std.specs.Prelude.{◌≡◌, ◌≢◌, All, Contains, IfErr, IfNone, IfOk, IfSome, OnOk};
-ghost use Rattle.std.specs.Prelude.{[], ⊤, false, true, ℕ, List, Result, string_bytes};
+ghost use Rattle.std.specs.Prelude.{[], ⊤, codes, false, true, ℕ, List, Result, string_bytes, unwrap_or};
 ghost use Rattle.std.specs.List.{flat_map};
 ghost use Rattle.clap.specs.Walk.{texts};
 ghost use Rattle.clap.specs.Words.{fault_of, first_value, found_of, kind_of};
 ghost use Rattle.clap.specs.declared.error.kind.ErrorKind.TheVariants.{OutOfMemory as NoMemoryKind};
 ghost use Rattle.olr_words.specs.Found.{AreFound, IsFoundIn, IsOfWords};
-ghost use Rattle.olr_words.specs.Record.{AreWordsOf, AskForNothing, HasValue, IsRequestOf};
-ghost use Rattle.olr_words.specs.Record.{IsRequestOfWords, IsWordsLine, name_of};
+ghost use Rattle.olr_words.specs.Record.{AskForNothing, HasValue, IsGivenBy, IsRequestOf, name_of};
+ghost use Rattle.olr_words.specs.Record.{parts_of};
+ghost use Rattle.olr_words.specs.Record.{IsRequestOfWords, IsWordsLine, app_of_words, is_among};
+ghost use Rattle.olr_words.specs.RecordWords.{ArePartsOf, at_spaces};
 ghost use Rattle.olr_words.specs.OneRequest.{StateTheSame};
 ghost use Rattle.olr_request.specs.declared.request.Request.{Request as RequestOf};
 ghost use Rattle.olr_words.specs.declared.record.RecordFault.{RecordFault as FaultOf};
@@ -18,7 +20,9 @@ ghost use Rattle.olr_request.specs.declared.fault.Fault.TheVariants as fault;
 ghost use Rattle.olr_words.specs.declared.record.RecordFault.TheVariants as record_fault;
 
 use crate::command::{CommandOption, Subcommand, subcommand_named};
+use crate::last_question::LastQuestion;
 use crate::record_command::record_command_of;
+use crate::record_words::RecordWords;
 use crate::words::Given;
 use clap::error::ErrorKind;
 use clap::{ArgMatches, Error};
@@ -60,22 +64,36 @@ impl From<AllocError> for RecordFault {
     }
 }
 
-/// The words of a record. What stands behind the first ` -- ` is one word, the reference, with the
-/// word `--` before it; the text before it, or the whole, is split at each space.
+/// A text split at each space.
+fn words_in<'a>(alloc: Global, text: &'a str) -> Result<Vec<&'a str>, AllocError>
+    ensures { IfOk result (λ words. texts words.items ≡ at_spaces text.now) }
+{
+    text.split(' ').collect(alloc)
+}
+
+/// The words of a record, and the reference. What stands behind the first ` -- ` is the reference;
+/// the text before it, or the whole, is split at each space.
 ///
 /// # Errors
 ///
 /// Where the allocator refused memory.
-pub fn words_of_record<'a>(alloc: Global, text: &'a str) -> Result<Vec<&'a str>, AllocError>
-    ensures { IfOk result (λ words. AreWordsOf text.now (texts words.items)) }
+pub fn words_of_record<'a>(alloc: Global, text: &'a str) -> Result<RecordWords<'a>, AllocError>
+    ensures { IfOk result (λ words. ArePartsOf text.now (parts_of words)) }
 {
     let Some((before, reference)) = text.split_once(" -- ") else {
-        return text.split(' ').collect(alloc);
+        let words = words_in(alloc, text)?;
+        return Ok(RecordWords {
+            text,
+            words,
+            reference: None,
+        });
     };
-    let mut words: Vec<&'a str> = before.split(' ').collect(alloc)?;
-    words.push("--")?;
-    words.push(reference)?;
-    Ok(words)
+    let words = words_in(alloc, before)?;
+    Ok(RecordWords {
+        text: before,
+        words,
+        reference: Some(reference),
+    })
 }
 
 /// The first line of a text.
@@ -131,20 +149,27 @@ fn refused(alloc: Global, error: Error) -> RecordFault
     words_fault(alloc, why_refused(alloc, &error))
 }
 
+/// Whether the reference is one of the words, since none stands behind them.
+fn is_reference_among(words: &RecordWords<'_>) -> bool
+    ensures { result ≡ is_among (parts_of words.now) }
+{
+    words.reference.is_none()
+}
+
 /// What is found in the words that begin with the name of a subcommand.
-fn found_in<'a>(
+fn found_in<'a, 'b: 'a>(
     alloc: Global,
     subcommand: &Subcommand,
-    words: &'a [&'a str],
+    words: &'a RecordWords<'b>,
 ) -> Result<ArgMatches<'a>, RecordFault>
-    ensures found { IfOk result (AreFound
-        (record_app subcommand.now.name.now (options_in subcommand.now)) (texts words.entry.now)) }
+    ensures found { IfOk result (AreFound (app_of_words subcommand.now (parts_of words.entry.now))
+        (parts_of words.entry.now).words) }
     ensures refused { IfErr result (IsOfWords (fault_of
-        (record_app subcommand.now.name.now (options_in subcommand.now))
-        (texts words.entry.now) ≢ [])) }
+        (app_of_words subcommand.now (parts_of words.entry.now)) (parts_of words.entry.now).words
+        ≢ [])) }
 {
-    let mut command = record_command_of(alloc, subcommand)?;
-    match command.try_get_matches_from_mut(words) {
+    let mut command = record_command_of(alloc, subcommand, is_reference_among(words))?;
+    match command.try_get_matches_from_mut(words.words.as_slice()) {
         Ok(found) => Ok(found),
         Err(error) => Err(refused(alloc, error)),
     }
@@ -199,20 +224,23 @@ fn check_values(
     Ok(())
 }
 
-/// The first of some words, which names a subcommand.
-fn name_in<'a>(words: &[&'a str]) -> &'a str
-    ensures { result.now ≡ name_of (texts words.now) }
+/// The first of the words, which names a subcommand.
+fn name_in<'a>(words: &RecordWords<'a>) -> &'a str
+    ensures { result.now ≡ name_of (parts_of words.now).words }
 {
-    match words.first() {
+    match words.words.first() {
         Some(word) => *word,
         None => "",
     }
 }
 
 /// What is found in words that are understood.
-fn understood<'a>(alloc: Global, words: &'a [&'a str]) -> Result<ArgMatches<'a>, RecordFault>
-    ensures found { IfOk result (IsFoundIn (texts words.entry.now)) }
-    ensures refused { IfErr result (IsOfWords (AskForNothing (texts words.entry.now))) }
+fn understood<'a, 'b: 'a>(
+    alloc: Global,
+    words: &'a RecordWords<'b>,
+) -> Result<ArgMatches<'a>, RecordFault>
+    ensures found { IfOk result (IsFoundIn (parts_of words.entry.now)) }
+    ensures refused { IfErr result (IsOfWords (AskForNothing (parts_of words.entry.now))) }
 {
     let name = name_in(words);
     let Some(subcommand) = subcommand_named(name) else {
@@ -224,21 +252,55 @@ fn understood<'a>(alloc: Global, words: &'a [&'a str]) -> Result<ArgMatches<'a>,
     Ok(found)
 }
 
-/// What the words of a record ask for, as JSON.
+/// The text of the reference: the one behind the words, or that found among them.
+fn reference_in<'a, 'b: 'a>(words: &RecordWords<'b>, found: &ArgMatches<'a>) -> &'a str
+    ensures { result.now ≡ unwrap_or (parts_of words.now).reference
+        (unwrap_or (first_value (found_of found.now) (codes "REF")) []) }
+{
+    match words.reference {
+        Some(reference) => reference,
+        None => found.get_str("REF").unwrap_or(""),
+    }
+}
+
+/// What the words of a record give.
+fn given_in<'a, 'b: 'a>(alloc: Global, words: &'a RecordWords<'b>) -> Result<Given<'a>, RecordFault>
+    ensures given { IfOk result (IsGivenBy (parts_of words.entry.now)) }
+    ensures refused { IfErr result (IsOfWords (AskForNothing (parts_of words.entry.now))) }
+{
+    let found = understood(alloc, words)?;
+    let given = Given::read(&found, reference_in(words, &found));
+    Ok(given.of_record())
+}
+
+/// Keeps the question of words that a reference stands behind.
+fn keep_question(alloc: Global, last: &mut LastQuestion, words: &RecordWords<'_>, given: &Given<'_>)
+    requires { IsGivenBy (parts_of words.now) given.now }
+{
+    if is_reference_among(words) {
+        return;
+    }
+    if let Some(question) = given.question_named(name_in(words)) {
+        last.keep(alloc, words.text, question);
+    }
+}
+
+/// What the words of a record ask for, as JSON. Their question is kept as the last one.
 ///
 /// # Errors
 ///
 /// [`RecordFault::Words`] where the first word is no subcommand that answers one reference, or the
 /// others give it something that it doesn't take in a record, or lack something that it requires;
 /// else the fault with which the program refuses the same words.
-pub fn request_of_record<'a>(
+pub fn request_of_record<'a, 'b: 'a>(
     alloc: Global,
-    words: &'a [&'a str],
+    last: &mut LastQuestion,
+    words: &'a RecordWords<'b>,
 ) -> Result<Request<'a>, RecordFault>
-    ensures { IsRequestOfWords (texts words.entry.now) result }
+    ensures { IsRequestOfWords (parts_of words.entry.now) result }
 {
-    let found = understood(alloc, words)?;
-    let given = Given::read(&found, found.get_str("REF").unwrap_or("")).of_record();
+    let given = given_in(alloc, words)?;
+    keep_question(alloc, last, words, &given);
     let Some(asked) = given.request(name_in(words)) else {
         return Err(words_fault(alloc, format!(in alloc; "nothing is asked for")));
     };

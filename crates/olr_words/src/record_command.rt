@@ -2,24 +2,44 @@
 
 ghost use Rattle.std.specs.Prelude.{◌≡◌, IfOk, IfSome, false};
 ghost use Rattle.clap.specs.Words.{app_of, rule_of};
-ghost use Rattle.olr_words.specs.RecordCommand.{options_in, record_app, record_option, record_options};
-ghost use Rattle.olr_words.specs.RecordCommand.{record_rule};
+ghost use Rattle.olr_words.specs.RecordCommand.{bare_app, options_in, record_app, record_option};
+ghost use Rattle.olr_words.specs.RecordCommand.{record_options, record_rule, reference_rule};
 ghost use Rattle.olr_words.specs.RecordCommand as specified;
 
 use crate::command::{CommandOption, Subcommand};
 use clap::{Arg, Command};
 use std::alloc::{AllocError, Global};
 
-/// The argument for an option of a record: a word without a name, or a name and a word.
+/// The argument for an option of a record: a name, and a word.
 fn argument<'a>(alloc: Global, option: &CommandOption) -> Arg<'a>
     ensures rule { IfSome (record_option option.now) (λ o. rule_of result ≡ record_rule o) }
     ensures local { result.global ≡ false }
 {
-    let argument = Arg::new(alloc, option.name);
-    if option.is_reference() {
-        return argument.required(true);
+    Arg::new(alloc, option.name).long(option.name)
+}
+
+/// The argument for the reference: a word without a name.
+fn reference<'a>(alloc: Global) -> Arg<'a>
+    ensures rule { rule_of result ≡ reference_rule }
+    ensures local { result.global ≡ false }
+{
+    Arg::new(alloc, "REF").required(true)
+}
+
+/// The command without options, for words of which the reference is one or isn't.
+fn bare_command<'a>(
+    alloc: Global,
+    name: &'static str,
+    has_reference: bool,
+) -> Result<Command<'a>, AllocError>
+    ensures { IfOk result (λ command. app_of command ≡ bare_app name.now has_reference) }
+{
+    let command = Command::new(alloc, name).disable_help_flag(true);
+    if !has_reference {
+        return Ok(command);
     }
-    argument.long(option.name)
+    let command = command.arg(reference(alloc))?;
+    Ok(command)
 }
 
 /// The same command with those of these options that a record may have.
@@ -39,8 +59,8 @@ fn with_options<'a>(
     Ok(command)
 }
 
-/// The command for the words of a record that begin with the name of this subcommand. It has no
-/// help.
+/// The command for the words of a record that begin with the name of this subcommand. The reference
+/// is one of them, or isn't. It has no help.
 ///
 /// # Errors
 ///
@@ -48,11 +68,12 @@ fn with_options<'a>(
 pub fn record_command_of<'a>(
     alloc: Global,
     subcommand: &Subcommand,
+    has_reference: bool,
 ) -> Result<Command<'a>, AllocError>
-    ensures { IfOk result (λ command.
-        app_of command ≡ record_app subcommand.now.name.now (options_in subcommand.now)) }
+    ensures { IfOk result (λ command. app_of command
+        ≡ record_app subcommand.now.name.now has_reference (options_in subcommand.now)) }
 {
-    let mut command = Command::new(alloc, subcommand.name).disable_help_flag(true);
+    let mut command = bare_command(alloc, subcommand.name, has_reference)?;
     for &options in subcommand.options {
         command = with_options(alloc, command, options)?;
     }

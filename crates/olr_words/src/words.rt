@@ -7,6 +7,7 @@ ghost use Rattle.olr_request.specs.declared.request.Format.TheVariants.{Json as 
 ghost use Rattle.olr_request.specs.declared.request.Request.TheVariants.{Show};
 ghost use Rattle.olr_words.specs.declared.words.MapSubcommand.{MapSubcommand as OfMap};
 ghost use Rattle.olr_words.specs.Given.{AreNumbers, AreTolerancesOf, IsGiven, IsNumberOf};
+ghost use Rattle.olr_words.specs.LastQuestion.{IsQuestionNamed};
 ghost use Rattle.olr_words.specs.Record.{IsOfSubcommand};
 ghost use Rattle.olr_words.specs.Words.{AreBoth, AreLimits, AreTolerances, IsNameOf, IsNearest};
 ghost use Rattle.olr_words.specs.Words.{IsQuestion, IsRefusedNumber, IsRefusedQuestion};
@@ -345,6 +346,21 @@ impl<'a> Given<'a> {
         match self.question(subcommand) {
             Ok(question) => Ok(question.request(self.text, pages, self.format)),
             Err(fault) => Err(fault),
+        }
+    }
+
+    /// The question that the subcommand of this name asks of a reference, if there is one, it is in
+    /// range, and no cursor is given.
+    pub(crate) fn question_named(&self, name: &str) -> Option<Question>
+        ensures { IfSome result (IsQuestionNamed self.now name.now) }
+    {
+        let subcommand = MapSubcommand::named(name)?;
+        if self.after.is_some() {
+            return None;
+        }
+        match self.question(subcommand) {
+            Ok(question) => Some(question),
+            Err(_) => None,
         }
     }
 

@@ -1,5 +1,5 @@
-use Rattle.olr_batch.proofs.Common.{string_bytes, ◌∙◌, bytes_of, exit}
-use Rattle.olr_batch.proofs.Lines.{found_line, no_memory_for}
+use Rattle.olr_batch.proofs.Common.{string_bytes, ◌∙◌, bytes_of}
+use Rattle.olr_batch.proofs.Lines.{found_line}
 use Rattle.olr_batch.proofs.record.write_answer.Goals as goal
 
 pub returns-clause-line : goal.returns-clause-line

@@ -17,9 +17,9 @@ pub returns-in_err-check_values-clause-refused : goal.returns-in_err-check_value
 returns-in_err-check_values-clause-refused c =
     let p = err_from_is_err_and c.from_residual-in_err-check_values.result
     c.from_residual-in_err-check_values.ensures.1 in
-    rw (p.1, p.2) (weaker (not_values _ _ _ _ _ c.in-Some.ensures.name c.name_in-name.ensures
-    c.in-Some.ensures.options c.in_ok-found.ensures.found) _ c.in_err-check_values.ensures.wrong)
+    rw (p.1, p.2) (weaker (not_values _ _ _ _ c.in-Some.ensures.name c.name_in-name.ensures
+    c.in-Some.ensures.options _ c.in_ok-found.ensures.found) _ c.in_err-check_values.ensures.wrong)
 
 pub returns-clause-found : goal.returns-clause-found
-returns-clause-found c = understood_by _ _ _ _ _ c.in-Some.ensures.name c.name_in-name.ensures
-    c.in-Some.ensures.options c.in_ok-found.ensures.found c.in_ok-check_values.ensures.right
+returns-clause-found c = understood_by _ _ _ _ c.in-Some.ensures.name c.name_in-name.ensures
+    c.in-Some.ensures.options _ c.in_ok-found.ensures.found c.in_ok-check_values.ensures.right

@@ -17,4 +17,4 @@ loop-options-preserved c =
     (at_drop_more of_groups groups c.loop-options.options-index d c.loop-options-test.true)
     ∙ (sym (both (app_of c.loop-options.command)
     (record_options (get_or groups c.loop-options.options-index d).now) (of_groups rest))
-    ∙ sym (ap (λ app. with_options app (of_groups rest)) c.in_ok-command.ensures)))
+    ∙ sym (ap (λ app. with_options app (of_groups rest)) c.in_ok-command-2.ensures)))

@@ -1,0 +1,22 @@
+-- The question that words before a reference ask.
+use Rattle.std.specs.Prelude.{◌≡◌, ℕ, List, None, Ok}
+use Rattle.std.specs.Borrow.{Bor}
+use Rattle.olr_request.specs.Question.{asked_alone}
+use Rattle.olr_request.specs.declared.question.Question.{Question}
+use Rattle.olr_words.specs.Record.{IsRequestOf}
+use Rattle.olr_words.specs.RecordWords.{IsAtDashes}
+use Rattle.olr_words.specs.Words.{IsNameOf, IsQuestion}
+use Rattle.olr_words.specs.declared.words.Given.{Given}
+use Rattle.olr_words.specs.declared.words.MapSubcommand.{MapSubcommand}
+
+-- the subcommand of this name asks the question, and goes on behind no cursor
+abbrev pub IsQuestionNamed : Given → List ℕ → Question → Type 0
+IsQuestionNamed given name question = (kind : MapSubcommand) × IsNameOf kind name
+    × IsQuestion given kind question × (given.after ≡ None)
+
+-- Whatever the reference is that stands behind these words and ` -- `, such a text asks this question
+-- of it.
+abbrev pub AskOfEach : List ℕ → Question → Type 0
+AskOfEach words question = (text : List ℕ) (reference : Bor (List ℕ))
+    → IsAtDashes text words reference.now
+    → IsRequestOf text (Ok (asked_alone question.what question.tolerances reference))

@@ -1,0 +1,69 @@
+//! The question that was asked last.
+
+ghost use Rattle.std.specs.Prelude.{◌≡◌, IfSome, Ok, ⊤};
+ghost use Rattle.olr_words.specs.LastQuestion.{AskOfEach};
+ghost use Rattle.olr_words.specs.Record.{IsRequestOf};
+
+use olr_request::{Format, Pages, Question, Request};
+use std::alloc::Global;
+use std::marker::Model;
+
+/// Words before a reference, and the question that they ask of it.
+#[derive(Drop)]
+struct Asked {
+    words: String,
+    question: Question,
+}
+
+/// The question that was asked last, so that the words for it needn't be understood again. It
+/// changes no answer: a text with the same words asks the same of its own reference.
+#[derive(Drop)]
+pub struct LastQuestion {
+    asked: Option<Asked>,
+}
+
+impl Model for LastQuestion {
+    ghost Value = { ⊤ };
+
+    ghost view = { λ _. tt };
+
+    ghost invariant = { λ last. IfSome last.asked (λ asked.
+        AskOfEach asked.words.bytes.items asked.question) };
+}
+
+impl LastQuestion {
+    /// That nothing was asked yet.
+    pub fn none() -> LastQuestion {
+        LastQuestion { asked: None }
+    }
+
+    /// What a text asks for whose words are those of the last question.
+    pub fn asked_again<'a>(&self, text: &'a str) -> Option<Request<'a>>
+        ensures { IfSome result (λ request. IsRequestOf text.now (Ok request)) }
+    {
+        let Some(asked) = &self.asked else {
+            return None;
+        };
+        let (words, reference) = text.split_once(" -- ")?;
+        if words == asked.words.as_str() {
+            return Some(
+                asked
+                    .question
+                    .request(reference, Pages::One(None), Format::Json),
+            );
+        }
+        None
+    }
+
+    /// Keeps the question that words ask of the reference behind them. Where the allocator refuses
+    /// memory nothing is kept.
+    pub(crate) fn keep(&mut self, alloc: Global, words: &str, question: Question)
+        requires { AskOfEach words.now question }
+    {
+        let Ok(words) = String::from_str(alloc, words) else {
+            self.asked = None;
+            return;
+        };
+        self.asked = Some(Asked { words, question });
+    }
+}
