@@ -10,16 +10,16 @@ use std::marker::Model;
 
 /// Words before a reference, and the question that they ask of it.
 #[derive(Drop)]
-struct Asked {
+struct KeptQuestion {
     words: String,
     question: Question,
 }
 
-/// The question that was asked last, so that the words for it needn't be understood again. It
-/// changes no answer: a text with the same words asks the same of its own reference.
+/// The question that was asked last, so that the words for it needn't be understood again. It changes
+/// no answer: a text with the same words before its reference asks the same of this one.
 #[derive(Drop)]
 pub struct LastQuestion {
-    asked: Option<Asked>,
+    kept: Option<KeptQuestion>,
 }
 
 impl Model for LastQuestion {
@@ -27,30 +27,27 @@ impl Model for LastQuestion {
 
     ghost view = { λ _. tt };
 
-    ghost invariant = { λ last. IfSome last.asked (λ asked.
-        AskOfEach asked.words.bytes.items asked.question) };
+    ghost invariant = { λ last. IfSome last.kept (λ kept.
+        AskOfEach kept.words.bytes.items kept.question) };
 }
 
 impl LastQuestion {
     /// That nothing was asked yet.
     pub fn none() -> LastQuestion {
-        LastQuestion { asked: None }
+        LastQuestion { kept: None }
     }
 
     /// What a text asks for whose words are those of the last question.
     pub fn asked_again<'a>(&self, text: &'a str) -> Option<Request<'a>>
         ensures { IfSome result (λ request. IsRequestOf text.now (Ok request)) }
     {
-        let Some(asked) = &self.asked else {
+        let Some(kept) = &self.kept else {
             return None;
         };
         let (words, reference) = text.split_once(" -- ")?;
-        if words == asked.words.as_str() {
-            return Some(
-                asked
-                    .question
-                    .request(reference, Pages::One(None), Format::Json),
-            );
+        if words == kept.words.as_str() {
+            let question = &kept.question;
+            return Some(question.request(reference, Pages::One(None), Format::Json));
         }
         None
     }
@@ -61,9 +58,9 @@ impl LastQuestion {
         requires { AskOfEach words.now question }
     {
         let Ok(words) = String::from_str(alloc, words) else {
-            self.asked = None;
+            self.kept = None;
             return;
         };
-        self.asked = Some(Asked { words, question });
+        self.kept = Some(KeptQuestion { words, question });
     }
 }
