@@ -162,7 +162,7 @@ def mixed(trial, seed, count):
     """Drawn records, each beside a run of its own; and once more in another order, written in pieces."""
     draws, texts = random.Random(seed), references()
     drawn = Records(draws, texts, cursors(trial, texts))
-    given = b"\n".join(drawn.record() for _ in range(count)).split(b"\n")
+    given = with_twins(draws, b"\n".join(drawn.record() for _ in range(count)).split(b"\n"), texts)
     lines = iter(answered(trial, b"\n".join(given)))
     first, kinds = {}, collections.Counter()
     for number, record in enumerate(given, 1):
@@ -179,6 +179,18 @@ def mixed(trial, seed, count):
     trial.summary = f"{sum(kinds.values())} records: " + ", ".join(f"{kind} {number}" for kind, number in kinds.most_common())
     for kind in ("show", *OF_BATCH, "match@", "Words", "BadCursor", "CursorOfOther", "CursorNotHere"):
         trial.expect(kinds[kind], f"no line is a {kind}", (None, b"", b""))
+
+
+def with_twins(draws, records, texts):
+    """Records, of which one in three has the words of the one before it, at times but for a byte, with a reference of its own."""
+    found = []
+    for record in records:
+        words, dashes, _ = (found[-1] if found else b"").partition(b" -- ")
+        if dashes and draws.randrange(3) == 0:
+            left_out = draws.randrange(5 * len(words) + 1)
+            record = words[:left_out] + words[left_out + 1 :] + dashes + draws.choice(texts).encode()
+        found.append(record)
+    return found
 
 
 def in_another_order(trial, draws, given, first):

@@ -143,7 +143,7 @@ def records(one, two, broken, last):
 
 RECORDS = {
     INPUT: records(TOWN, TOWN, "*", TOWN),
-    QUESTIONS: records(f"match --page 1 -- {TOWN}", f"why --bearing 0 -- {TOWN}", "show -- *", f"places --apart=0 {TOWN}"),
+    QUESTIONS: records(f"why --bearing 0 -- {TOWN}", f"why --bearing 0 -- {TOWN}", "show -- *", f"places --apart=0 {TOWN}"),
 }
 # No case has as many allocations.
 MOST = 100_000

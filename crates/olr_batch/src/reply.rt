@@ -16,7 +16,7 @@ pub(crate) struct RecordsOnMap<'a> {
     pub records: &'a Records,
     /// The map.
     pub map: MapForRequests<'a>,
-    /// The question that a record asked last.
+    /// The question that was kept last.
     pub last: LastQuestion,
 }
 

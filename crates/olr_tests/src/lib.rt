@@ -35,4 +35,6 @@ mod samples;
 #[cfg(test)]
 mod tables;
 #[cfg(test)]
+mod words;
+#[cfg(test)]
 mod writing;

@@ -6,8 +6,8 @@ use Rattle.olr_request.specs.Question.{request_for}
 use Rattle.olr_request.specs.declared.question.Question.{Question}
 use Rattle.olr_request.specs.declared.question.QuestionKind.{QuestionKind}
 use Rattle.olr_request.specs.declared.request.Pages.TheVariants as pages
-use Rattle.olr_words.specs.LastQuestion.{AskOfEach, IsQuestionNamed}
-use Rattle.olr_words.specs.Record.{IsGivenBy, is_among, name_of, parts_of}
+use Rattle.olr_words.specs.LastQuestion.{AskOfEach, IsQuestionWithoutCursor}
+use Rattle.olr_words.specs.Record.{IsGivenBy, has_reference, name_of, parts_of}
 use Rattle.olr_words.specs.RecordWords.{at_spaces, parts}
 use Rattle.olr_words.specs.Words.{AreBoth, IsWhat, pages_of}
 use Rattle.olr_words.specs.declared.record_words.RecordWords.{RecordWords}
@@ -60,7 +60,7 @@ module _ (words behind : List ℕ) (given : Given) (question : Question)
     };
   }
 
-  pub ask_of_each : IsQuestionNamed given (name_of (at_spaces words)) question
+  pub ask_of_each : IsQuestionWithoutCursor given (name_of (at_spaces words)) question
       → AskOfEach words question
   ask_of_each named text reference at = inr (
     parts (at_spaces words) (Some reference.now),
@@ -87,9 +87,9 @@ module _ (words behind : List ℕ) (given : Given) (question : Question)
 
 -- the same of words that were split, which the reference isn't among
 pub ask_of_kept : (words : RecordWords) (given : Given) (question : Question) (name : List ℕ)
-    → is_among (parts_of words) ≡ false → texts words.words.items ≡ at_spaces words.text.now
+    → has_reference (parts_of words) ≡ false → texts words.words.items ≡ at_spaces words.text.now
     → IsGivenBy (parts_of words) given → name ≡ name_of (texts words.words.items)
-    → IsQuestionNamed given name question → AskOfEach words.text.now question
+    → IsQuestionWithoutCursor given name question → AskOfEach words.text.now question
 ask_of_kept words given question name among split its begins named =
     go (parts_of words).reference among
     (subst (λ ws. IsGivenBy (parts ws (parts_of words).reference) given) split its)
@@ -98,4 +98,4 @@ ask_of_kept words given question name among split its begins named =
         → IsGivenBy (parts (at_spaces words.text.now) behind) given → AskOfEach words.text.now question
     go None there given_by = cc
     go (Some behind) there given_by = ask_of_each words.text.now behind given question given_by
-        (subst (λ n. IsQuestionNamed given n question) (begins ∙ ap name_of split) named)
+        (subst (λ n. IsQuestionWithoutCursor given n question) (begins ∙ ap name_of split) named)

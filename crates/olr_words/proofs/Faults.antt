@@ -12,7 +12,7 @@ use Rattle.clap.specs.declared.error.kind.ErrorKind.TheVariants.{OutOfMemory}
 use Rattle.clap.specs.declared.parser.matches.ArgMatches.{ArgMatches}
 use Rattle.olr_words.specs.Options.{RecordOption, options_of}
 use Rattle.olr_words.specs.Found.{AreFound, IsFoundIn, IsOfWords}
-use Rattle.olr_words.specs.Record.{AreUnderstood, AskForNothing, HasValue, app_for, is_among, name_of, text_in}
+use Rattle.olr_words.specs.Record.{AreUnderstood, AskForNothing, HasValue, app_for, has_reference, name_of, text_in}
 use Rattle.olr_words.specs.RecordCommand.{record_app}
 use Rattle.olr_words.specs.RecordWords.{Parts}
 use Rattle.olr_request.specs.declared.fault.Fault.TheVariants as fault
@@ -73,10 +73,10 @@ module _ (its : Parts) where
   module _ (name given : List ℕ) (options : List RecordOption) (same : name ≡ given)
       (is : given ≡ name_of its.words) (named : Some options ≡ options_of given) where
     abbrev app : App
-    app = record_app name (is_among its) options
+    app = record_app name (has_reference its) options
 
     same_app : app ≡ app_for options its
-    same_app = λ k. record_app ((same ∙ is) k) (is_among its) options
+    same_app = λ k. record_app ((same ∙ is) k) (has_reference its) options
 
     -- they are understood with these options alone
     understood_at : (others : List RecordOption) → AreUnderstood others its → others ≡ options

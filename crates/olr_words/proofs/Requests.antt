@@ -1,5 +1,5 @@
 -- The requests that words ask for.
-use Rattle.std.proofs.Common.{◌≡◌, ◌≢◌, ◌⊎◌, ◌∙◌, ap, sym, subst, refl, inl, inr, Bool, true, false, cond, List, [], ◌∷◌, ℕ, Bor, Option, Some, None}
+use Rattle.std.proofs.Common.{◌≡◌, ◌≢◌, ◌⊎◌, ◌∙◌, ap, sym, subst, refl, inl, inr, Bool, true, false, cond, List, [], ◌∷◌, ℕ, Option, Some, None}
 use Rattle.std.specs.Prelude.{IfErr, IfOk, Result, Ok, Err, codes, find, option_map, unwrap_or}
 use Rattle.std.specs.Str.{bytes_eq}
 use Rattle.std.proofs.lemmas.Slice.Eq.{bytes_eq-Decides}
@@ -9,7 +9,6 @@ use Rattle.olr_request.specs.declared.fault.Fault.{Fault}
 use Rattle.olr_request.specs.declared.fault.Fault.TheVariants as fault
 use Rattle.olr_request.specs.declared.request.Format.TheVariants.{Json}
 use Rattle.olr_request.specs.declared.request.Request.{Request}
-use Rattle.olr_request.specs.declared.request.Request.TheVariants.{Show}
 use Rattle.olr_words.specs.Given.{IsGiven}
 use Rattle.olr_words.specs.Options.{RecordOption, options_named, options_of, subcommands}
 use Rattle.olr_words.specs.Found.{IsFoundIn}
@@ -23,16 +22,6 @@ use Rattle.olr_words.specs.declared.words.MapSubcommand.TheVariants as each
 use Rattle.olr_words.proofs.Faults.{texts_found}
 
 -- ---- the subcommand
-
-pub named_show : (given : Given) (name : List ℕ) (request : Request)
-    → bytes_eq name (codes "show") ≡ true
-    → request ≡ Show given.text given.format → IsOfSubcommand given name (Ok request)
-named_show given name request same is = inl ((bytes_eq-Decides name (codes "show")).0 same, is)
-
-pub not_show : (name : List ℕ) → bytes_eq name (codes "show") ≡ false → name ≢ codes "show"
-not_show name differ is =
-    let same : bytes_eq name (codes "show") ≡ true =
-    (bytes_eq-Decides name (codes "show")).1 is in cc
 
 pub of_map : (given : Given) (name : List ℕ) (kind : MapSubcommand) (r : Result Request Fault)
     → IsNameOf kind name → IfOk r (IsRequest given kind) → IfErr r (IsRefusedRequest given kind)
@@ -69,17 +58,6 @@ has_subcommand name options is not_that none = elim (has_row subcommands name op
 ]
 
 -- ---- what is given
-
-text_or_none : (found : Option (Bor (List ℕ))) (text : Option (List ℕ)) (d : Bor (List ℕ))
-    → option_map (λ s. s.now) found ≡ text → d.now ≡ [] → (unwrap_or found d).now ≡ unwrap_or text []
-text_or_none None text d is empty = empty ∙ ap (λ o. unwrap_or o []) is
-text_or_none (Some found) text d is empty = ap (λ o. unwrap_or o []) is
-
-pub text_found : (found : Option (Bor (List ℕ))) (text : Option (List ℕ)) (d r : Bor (List ℕ))
-    → r ≡ unwrap_or found d → option_map (λ s. s.now) found ≡ text → d.now ≡ []
-    → r.now ≡ unwrap_or text []
-text_found found text d r is of_text empty =
-    ap (λ (t : Bor (List ℕ)). t.now) is ∙ text_or_none found text d of_text empty
 
 given_alike : (text_of : List ℕ → Option (List ℕ)) (read given : Given) → IsGiven text_of read
     → given ≡ record read { all = false; format = Json } → IsGiven text_of given

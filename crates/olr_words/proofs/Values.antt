@@ -14,9 +14,6 @@ pub record Remain {X : Type 0} (P : X → Type 0) (all left : List X) : Type 0 w
   pub forth : All P left → All P all
   pub back : All P all → All P left
 
-pub all_remain : {X : Type 0} (P : X → Type 0) (all : List X) → Remain P all all
-all_remain P all = record { forth = λ h. h; back = λ h. h }
-
 pub one_passed : {X : Type 0} (P : X → Type 0) (all rest : List X) (o : Option X)
     → Remain P all (cons_option o rest) → IfSome o P → Remain P all rest
 one_passed P all rest None left is = left

@@ -10,12 +10,11 @@ use Rattle.olr_words.specs.declared.words.Given.{Given}
 use Rattle.olr_words.specs.declared.words.MapSubcommand.{MapSubcommand}
 
 -- the subcommand of this name asks the question, and goes on behind no cursor
-abbrev pub IsQuestionNamed : Given → List ℕ → Question → Type 0
-IsQuestionNamed given name question = (kind : MapSubcommand) × IsNameOf kind name
+abbrev pub IsQuestionWithoutCursor : Given → List ℕ → Question → Type 0
+IsQuestionWithoutCursor given name question = (kind : MapSubcommand) × IsNameOf kind name
     × IsQuestion given kind question × (given.after ≡ None)
 
--- Whatever the reference is that stands behind these words and ` -- `, such a text asks this question
--- of it.
+-- a text of these words, ` -- ` and any reference asks this question of that reference
 abbrev pub AskOfEach : List ℕ → Question → Type 0
 AskOfEach words question = (text : List ℕ) (reference : Bor (List ℕ))
     → IsAtDashes text words reference.now

@@ -47,17 +47,17 @@ abbrev pub HasValue : (List ℕ → Option (List ℕ)) → RecordOption → Type
 HasValue text_of option = IfSome (text_of option.name) (IsValue option.value)
 
 -- the reference is one of the words, since none stands behind them
-abbrev pub is_among : Parts → Bool
-is_among its = not (is_some its.reference)
+abbrev pub has_reference : Parts → Bool
+has_reference its = not (is_some its.reference)
 
 -- the command that reads the words, where their first one names a subcommand with these options
 abbrev pub app_for : List RecordOption → Parts → App
-app_for options its = record_app (name_of its.words) (is_among its) options
+app_for options its = record_app (name_of its.words) (has_reference its) options
 
 -- the same of a subcommand of the program
 abbrev pub app_of_words : Subcommand → Parts → App
 app_of_words subcommand its =
-    record_app subcommand.name.now (is_among its) (options_in subcommand)
+    record_app subcommand.name.now (has_reference its) (options_in subcommand)
 
 -- the text that the words have for an option or the reference, as `clap` reads them
 abbrev pub text_in : List RecordOption → Parts → List ℕ → Option (List ℕ)

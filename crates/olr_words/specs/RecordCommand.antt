@@ -20,13 +20,13 @@ record_rule option = record (new_rule option.name) { long = Some option.name }
 abbrev pub reference_rule : Rule
 reference_rule = record (new_rule (codes "REF")) { required = true }
 
--- A command without help, with these arguments.
+-- a command without help, with these arguments
 abbrev pub app_with : List ℕ → List Rule → App
 app_with name rules = record (new_app name) {
   top = record (new_app name).top { disable_help_flag = true; rules = rules };
 }
 
--- a command for words of which the reference is one, or for those before it
+-- a command with the reference among its arguments, or without it
 abbrev pub bare_app : List ℕ → Bool → App
 bare_app name has_reference =
     app_with name (if has_reference then reference_rule ∷ [] else [])
@@ -36,7 +36,7 @@ abbrev pub with_options : App → List RecordOption → App
 with_options app options =
     record app { top = record app.top { rules = app.top.rules ++ map record_rule options } }
 
--- the command for the words of a record, of which the reference is one or isn't
+-- the command for the words of a record, with the reference among its arguments or without it
 abbrev pub record_app : List ℕ → Bool → List RecordOption → App
 record_app name has_reference options = with_options (bare_app name has_reference) options
 

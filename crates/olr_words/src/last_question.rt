@@ -1,6 +1,6 @@
 //! The question that was asked last.
 
-ghost use Rattle.std.specs.Prelude.{◌≡◌, IfSome, Ok, ⊤};
+ghost use Rattle.std.specs.Prelude.{IfSome, Ok, ⊤};
 ghost use Rattle.olr_words.specs.LastQuestion.{AskOfEach};
 ghost use Rattle.olr_words.specs.Record.{IsRequestOf};
 
@@ -16,7 +16,7 @@ struct KeptQuestion {
 }
 
 /// The question that was asked last, so that the words for it needn't be understood again. It changes
-/// no answer: a text with the same words before its reference asks the same of this one.
+/// no answer: a text with the same words asks the same of its own reference.
 #[derive(Drop)]
 pub struct LastQuestion {
     kept: Option<KeptQuestion>,
@@ -53,12 +53,11 @@ impl LastQuestion {
     }
 
     /// Keeps the question that words ask of the reference behind them. Where the allocator refuses
-    /// memory nothing is kept.
+    /// memory, the one before stays.
     pub(crate) fn keep(&mut self, alloc: Global, words: &str, question: Question)
         requires { AskOfEach words.now question }
     {
         let Ok(words) = String::from_str(alloc, words) else {
-            self.kept = None;
             return;
         };
         self.kept = Some(KeptQuestion { words, question });

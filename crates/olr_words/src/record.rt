@@ -7,14 +7,13 @@ ghost use Rattle.clap.specs.Walk.{texts};
 ghost use Rattle.clap.specs.Words.{fault_of, first_value, found_of, kind_of};
 ghost use Rattle.clap.specs.declared.error.kind.ErrorKind.TheVariants.{OutOfMemory as NoMemoryKind};
 ghost use Rattle.olr_words.specs.Found.{AreFound, IsFoundIn, IsOfWords};
-ghost use Rattle.olr_words.specs.Record.{AskForNothing, HasValue, IsGivenBy, IsRequestOf, name_of};
-ghost use Rattle.olr_words.specs.Record.{parts_of};
-ghost use Rattle.olr_words.specs.Record.{IsRequestOfWords, IsWordsLine, app_of_words, is_among};
+ghost use Rattle.olr_words.specs.Record.{AskForNothing, HasValue, IsGivenBy, IsRequestOf};
+ghost use Rattle.olr_words.specs.Record.{IsRequestOfWords, IsWordsLine, app_of_words, has_reference};
+ghost use Rattle.olr_words.specs.Record.{name_of, parts_of};
 ghost use Rattle.olr_words.specs.RecordWords.{ArePartsOf, at_spaces};
 ghost use Rattle.olr_words.specs.OneRequest.{StateTheSame};
 ghost use Rattle.olr_request.specs.declared.request.Request.{Request as RequestOf};
 ghost use Rattle.olr_words.specs.declared.record.RecordFault.{RecordFault as FaultOf};
-ghost use Rattle.olr_words.specs.RecordCommand.{options_in, record_app};
 ghost use Rattle.olr_words.specs.RecordCommand.{record_option, record_options};
 ghost use Rattle.olr_request.specs.declared.fault.Fault.TheVariants as fault;
 ghost use Rattle.olr_words.specs.declared.record.RecordFault.TheVariants as record_fault;
@@ -150,8 +149,8 @@ fn refused(alloc: Global, error: Error) -> RecordFault
 }
 
 /// Whether the reference is one of the words, since none stands behind them.
-fn is_reference_among(words: &RecordWords<'_>) -> bool
-    ensures { result ≡ is_among (parts_of words.now) }
+fn has_reference(words: &RecordWords<'_>) -> bool
+    ensures { result ≡ has_reference (parts_of words.now) }
 {
     words.reference.is_none()
 }
@@ -168,7 +167,7 @@ fn found_in<'a, 'b: 'a>(
         (app_of_words subcommand.now (parts_of words.entry.now)) (parts_of words.entry.now).words
         ≢ [])) }
 {
-    let mut command = record_command_of(alloc, subcommand, is_reference_among(words))?;
+    let mut command = record_command_of(alloc, subcommand, has_reference(words))?;
     match command.try_get_matches_from_mut(words.words.as_slice()) {
         Ok(found) => Ok(found),
         Err(error) => Err(refused(alloc, error)),
@@ -273,19 +272,20 @@ fn given_in<'a, 'b: 'a>(alloc: Global, words: &'a RecordWords<'b>) -> Result<Giv
     Ok(given.of_record())
 }
 
-/// Keeps the question of words that a reference stands behind.
+/// Keeps the question of words that a reference stands behind and that have no cursor.
 fn keep_question(alloc: Global, last: &mut LastQuestion, words: &RecordWords<'_>, given: &Given<'_>)
     requires { IsGivenBy (parts_of words.now) given.now }
 {
-    if is_reference_among(words) {
+    if has_reference(words) {
         return;
     }
-    if let Some(question) = given.question_named(name_in(words)) {
+    if let Some(question) = given.question_without_cursor(name_in(words)) {
         last.keep(alloc, words.text, question);
     }
 }
 
-/// What the words of a record ask for, as JSON. Their question is kept as the last one.
+/// What the words of a record ask for, as JSON. A question of a reference behind the words, with no
+/// cursor and nothing refused, is kept as the last one.
 ///
 /// # Errors
 ///

@@ -26,7 +26,7 @@ fn reference<'a>(alloc: Global) -> Arg<'a>
     Arg::new(alloc, "REF").required(true)
 }
 
-/// The command without options, for words of which the reference is one or isn't.
+/// The command without options, with the reference among its arguments or without it.
 fn bare_command<'a>(
     alloc: Global,
     name: &'static str,
@@ -59,8 +59,8 @@ fn with_options<'a>(
     Ok(command)
 }
 
-/// The command for the words of a record that begin with the name of this subcommand. The reference
-/// is one of them, or isn't. It has no help.
+/// The command for the words of a record that begin with the name of this subcommand, with the
+/// reference among its arguments or without it. It has no help.
 ///
 /// # Errors
 ///

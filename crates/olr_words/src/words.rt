@@ -7,7 +7,7 @@ ghost use Rattle.olr_request.specs.declared.request.Format.TheVariants.{Json as 
 ghost use Rattle.olr_request.specs.declared.request.Request.TheVariants.{Show};
 ghost use Rattle.olr_words.specs.declared.words.MapSubcommand.{MapSubcommand as OfMap};
 ghost use Rattle.olr_words.specs.Given.{AreNumbers, AreTolerancesOf, IsGiven, IsNumberOf};
-ghost use Rattle.olr_words.specs.LastQuestion.{IsQuestionNamed};
+ghost use Rattle.olr_words.specs.LastQuestion.{IsQuestionWithoutCursor};
 ghost use Rattle.olr_words.specs.Record.{IsOfSubcommand};
 ghost use Rattle.olr_words.specs.Words.{AreBoth, AreLimits, AreTolerances, IsNameOf, IsNearest};
 ghost use Rattle.olr_words.specs.Words.{IsQuestion, IsRefusedNumber, IsRefusedQuestion};
@@ -349,10 +349,10 @@ impl<'a> Given<'a> {
         }
     }
 
-    /// The question that the subcommand of this name asks of a reference, if there is one, it is in
-    /// range, and no cursor is given.
-    pub(crate) fn question_named(&self, name: &str) -> Option<Question>
-        ensures { IfSome result (IsQuestionNamed self.now name.now) }
+    /// The question that the subcommand of this name asks of a reference, if there is one, its numbers
+    /// are in range, and no cursor is given.
+    pub(crate) fn question_without_cursor(&self, name: &str) -> Option<Question>
+        ensures { IfSome result (IsQuestionWithoutCursor self.now name.now) }
     {
         let subcommand = MapSubcommand::named(name)?;
         if self.after.is_some() {

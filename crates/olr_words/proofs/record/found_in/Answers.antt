@@ -14,7 +14,7 @@ returns-in-Ok-clause-found c =
     c.as_slice.ensures.value
     (found_by _ _ _ _ _ _ (c.in_ok-command.ensures
     ∙ ap (λ (b : Bool). record_app c.args.subcommand.now.name.now b (options_in c.args.subcommand.now))
-    c.is_reference_among.ensures) c.in-Ok.ensures.kinds c.in-Ok.ensures.ok.2)
+    c.has_reference.ensures) c.in-Ok.ensures.kinds c.in-Ok.ensures.ok.2)
 
 pub returns-clause-refused : goal.returns-clause-refused
 returns-clause-refused c = weaker
@@ -23,5 +23,5 @@ returns-clause-refused c = weaker
     c.as_slice.ensures.value
     (refused_by _ _ c.in-Err.error _ _ _ (c.in_ok-command.ensures
     ∙ ap (λ (b : Bool). record_app c.args.subcommand.now.name.now b (options_in c.args.subcommand.now))
-    c.is_reference_among.ensures) c.in-Err.ensures.kinds is)) _
+    c.has_reference.ensures) c.in-Err.ensures.kinds is)) _
     c.refused.ensures
