@@ -11,6 +11,7 @@ import olr
 from asking import draw_map, draw_references
 from conftest import Program
 from drawn_maps import draw_files
+from olr.asking.files import MapFiles
 from olr.model.answers import Matching, Reference
 from olr.model.map_folder import read_map
 from olr.model.road_map import Ban, Line, RoadMap
@@ -355,7 +356,8 @@ def test_the_files_of_a_folder(tmp_path: Path, seed: int) -> None:
     """Written in all ways that the program reads."""
     for name, data in draw_files(random.Random(seed)).items():
         (tmp_path / name).write_bytes(data)
-    read, expected = Streets.of_folder(tmp_path), streets_on(read_map(tmp_path))
+    files = MapFiles.of_folder(tmp_path)
+    read, expected = Streets.of_files(files), streets_on(read_map(tmp_path))
     assert [read.ids.tolist(), read.classes.tolist(), read.lengths.tolist()] == [
         expected.ids.tolist(),
         expected.classes.tolist(),

@@ -3,7 +3,7 @@
 import errno
 import os
 import threading
-from collections.abc import Iterator
+from collections.abc import Iterator, Sequence
 from contextlib import contextmanager
 from pathlib import Path
 from typing import NamedTuple
@@ -28,9 +28,17 @@ class Version(NamedTuple):
 class MapFiles:
     """The files of a map. When they were read once they have to stay as they are: all answers are of one version."""
 
-    def __init__(self, nodes: PathLike, lines: PathLike, bans: PathLike | None) -> None:
+    def __init__(
+        self,
+        nodes: PathLike,
+        lines: PathLike,
+        bans: PathLike | None,
+        descriptors: Sequence[int] = (),
+    ) -> None:
         self.nodes, self.lines = Path(nodes), Path(lines)
         self.bans = None if bans is None else Path(bans)
+        self.descriptors = descriptors
+        """Those of open files by which a process of the program reads them too: none of files that have names."""
         self.version: Version | None = None
         """The one that was read: None until then."""
         self._lock = threading.Lock()

@@ -27,7 +27,7 @@ def command_of(program: str | Path, words: Sequence[str]) -> list[str]:
 
 
 def start(program: str | Path, words: Sequence[str], **pipes: Any) -> "subprocess.Popen[bytes]":
-    """Starts the program in a process group of its own, with `stdin`, `stdout` and `stderr` as `Popen` takes them. It ends with the thread
+    """Starts the program in a process group of its own, with `stdin`, `stdout`, `stderr` and `pass_fds` as `Popen` takes them. It ends with the thread
     that calls this. Raises `ProgramNotFound` if it can't be started."""
     command = command_of(program, words)
     try:

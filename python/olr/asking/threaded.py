@@ -100,7 +100,8 @@ class Process:
         """Starts the process, and asks it until it has ended. Raises `ToolError`."""
         version = self._files.found()
         words, pipe = words_of_process(self._files), subprocess.PIPE
-        with start(self._program, words, stdin=pipe, stdout=pipe, stderr=pipe) as process:
+        pipes = {"stdin": pipe, "stdout": pipe, "stderr": pipe}
+        with start(self._program, words, pass_fds=self._files.descriptors, **pipes) as process:
             self._process = process
             writer = threading.Thread(target=self._write, args=(process.stdin,), daemon=True)
             try:

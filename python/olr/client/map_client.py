@@ -156,7 +156,7 @@ class Map:
         self.close()
 
     def close(self) -> None:
-        """Ends the processes, and deletes what a store's map has in a scratch folder. What is asked of the map later raises `ToolError`;
+        """Ends the processes, and lets go of the scratch files of a store's map. What is asked of the map later raises `ToolError`;
         a second call does nothing.
 
         >>> import olr

@@ -1,12 +1,10 @@
-"""The map of a store: each question is asked on a part of it that has the regions of its references, in a scratch folder."""
+"""The map of a store: each question is asked on a part of it that has the regions of its references, in scratch files."""
 
 import numpy as np
 import os
-import shutil
 import threading
-import weakref
 from collections.abc import Callable, Generator, Iterable, Iterator, Sequence
-from contextlib import closing
+from contextlib import ExitStack, closing
 from itertools import islice
 from pathlib import Path
 
@@ -24,7 +22,7 @@ from olr.model.questions import record_text
 from olr.model.reference import read_points
 from olr.regions.current import CurrentStore
 from olr.regions.options import Options
-from olr.regions.scratch import new_scratch_folder, write_scratch_map
+from olr.regions.scratch import scratch_files
 from olr.regions.sharing import groups_of, unread
 from olr.regions.store import Store
 
@@ -54,7 +52,7 @@ class StoreSource:
         self._closed = False
 
     def close(self) -> None:
-        """Ends the processes, and deletes the scratch folder."""
+        """Ends the processes, and lets go of the scratch files."""
         self._closed = True
         if (there := self._there) is not None:
             there.source.close()
@@ -159,31 +157,18 @@ class _Chunk:
 
 
 class _Region:
-    """Some lines of a store as a map in a scratch folder, which is asked."""
+    """Some lines of a store as a map in scratch files, which is asked."""
 
     def __init__(self, lines: Integers, store: Store, made: Made) -> None:
-        """Writes the map. Raises `ToolError` if the store can't be read, or the scratch folder can't be written."""
-        self._lines = lines
-        folder = new_scratch_folder()
-        self._delete = weakref.finalize(self, _delete, folder, os.getpid())
-        try:
-            write_scratch_map(store, lines, folder / "map")
-        except BaseException:
-            self._delete()
-            raise
-        self.source = made(MapFiles.of_folder(folder / "map"))
+        """Writes the map. Raises `ToolError` if the store can't be read, or scratch files can't be written."""
+        self._lines, self._files = lines, ExitStack()
+        self.source = made(self._files.enter_context(scratch_files(store, lines)))
 
     def has(self, lines: Integers) -> bool:
         """Whether it has all of these lines."""
         return bool(np.isin(lines, self._lines, assume_unique=True).all())
 
     def close(self) -> None:
-        """Ends the processes, and deletes the folder."""
+        """Ends the processes, and lets go of the files."""
         self.source.close()
-        self._delete()
-
-
-def _delete(folder: Path, owner: int) -> None:
-    """Deletes a scratch folder: in the process that made it."""
-    if os.getpid() == owner:
-        shutil.rmtree(folder, ignore_errors=True)
+        self._files.close()

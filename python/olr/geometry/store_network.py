@@ -11,12 +11,12 @@ from olr.arrays import Floats, Integers
 from olr.errors import ToolError, map_changed
 from olr.geometry.network import Network, Polylines
 from olr.model.display import note_network
-from olr.model.map_folder import LINES, NODES, store_of
+from olr.model.map_folder import store_of
 from olr.model.road_map import MICRODEGREE
 from olr.model.sources import Sources
 from olr.regions.current import CurrentStore
 from olr.regions.plane import Disc, scale_at
-from olr.regions.scratch import scratch_map
+from olr.regions.scratch import scratch_files
 from olr.regions.store import Store
 
 if TYPE_CHECKING:
@@ -29,8 +29,8 @@ class PartOfNetwork(Network):
 
     def __init__(self, store: Store, lines: Integers) -> None:
         """Reads lines by their ids. Raises `ToolError` if the store can't be read, or scratch files can't be written."""
-        with scratch_map(store, lines) as folder:
-            super().__init__(folder / NODES, folder / LINES)
+        with scratch_files(store, lines) as files:
+            super().__init__(files.nodes, files.lines)
         self.folder, self.digest = store.file, store.digest
 
     def has(self, lines: Integers) -> bool:

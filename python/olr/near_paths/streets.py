@@ -10,12 +10,12 @@ from pathlib import Path
 from typing import NamedTuple
 
 from olr.arrays import Integers
+from olr.asking.files import MapFiles
 from olr.errors import ToolError
 from olr.geometry.network import Network
 from olr.model.columns import What, joined_columns, read_columns
-from olr.model.map_folder import BANS, LINES
 from olr.regions.plane import Disc
-from olr.regions.scratch import scratch_map
+from olr.regions.scratch import scratch_files
 from olr.regions.store import Store
 
 
@@ -100,13 +100,10 @@ class Streets:
         return cls(Lines(*columns), _bans_of(bans_file))
 
     @classmethod
-    def of_folder(cls, folder: Path) -> "Streets":
-        """All lines and bans of a map's folder; `bans.csv` may be missing. Raises `ToolError` if they can't be read."""
-        id, start, end, road_class, _, length = _numbers("lines", folder / LINES)
-        bans = folder / BANS
-        return cls(
-            Lines(id, start, end, road_class, length), _bans_of(bans if bans.exists() else None)
-        )
+    def of_files(cls, files: MapFiles) -> "Streets":
+        """All lines and bans of a map's files. Raises `ToolError` if they can't be read."""
+        id, start, end, road_class, _, length = _numbers("lines", files.lines)
+        return cls(Lines(id, start, end, road_class, length), _bans_of(files.bans))
 
     @classmethod
     def of_store(cls, store: Store, discs: Iterable[Disc]) -> "Streets":
@@ -115,8 +112,8 @@ class Streets:
         lines = store.lines_meeting(discs)
         if not store.sizes_of(lines).within_limits():
             raise ToolError(f"{len(lines):,} lines of {store.file} are too many to search")
-        with scratch_map(store, lines) as folder:
-            return cls.of_folder(folder)
+        with scratch_files(store, lines) as files:
+            return cls.of_files(files)
 
     def limited(self, most: int) -> "Streets":
         """The same streets, on which searches may look at so many lines, all together: then they raise `ToolError`."""

@@ -15,6 +15,6 @@
 | `options` | what was asked, with which numbers |
 | `region` | the discs that the lines of a reference meet |
 | `sharing` | references that one map has room for |
-| `scratch` | maps in scratch folders |
+| `scratch` | maps in scratch files |
 | `current` | a store that is read for a long time, and stays the same map |
 """

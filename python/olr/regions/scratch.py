@@ -1,46 +1,46 @@
-"""Maps in scratch folders, which lie in the folder that TMPDIR names: where they can't be written, that is said."""
+"""Maps in scratch files, which lie in the folder that TMPDIR names: where they can't be written, that is said."""
 
-import shutil
 import tempfile
 from collections.abc import Iterator
 from contextlib import ExitStack, contextmanager
 from pathlib import Path
 
 from olr.arrays import Integers
+from olr.asking.files import MapFiles
 from olr.errors import ToolError
+from olr.model.map_folder import BANS, LINES, NODES
 from olr.regions.store import Store
 from olr.temporary import temporary_folder
 
 PREFIX = "olr-map."
-"""Of the names of scratch folders."""
+"""Of the names of scratch folders, and of files where the file system has none without a name."""
 ADVICE = "name another folder for scratch files by TMPDIR"
-
-
-def new_scratch_folder() -> Path:
-    """A new folder. Raises `ToolError` if it can't be made."""
-    with _made():
-        return Path(tempfile.mkdtemp(prefix=PREFIX))
 
 
 @contextmanager
 def _made() -> Iterator[None]:
-    """Raises `ToolError` where a folder can't be made."""
+    """Raises `ToolError` where a folder can't be made, or a file can't be written."""
     try:
         yield
     except OSError as error:
         raise ToolError(f"scratch files can't be written: {error.strerror}: {ADVICE}") from error
 
 
-def write_scratch_map(store: Store, lines: Integers, folder: Path) -> None:
-    """Writes the map of some lines into a scratch folder, in place of what is there. Raises `ToolError` as `Store.write_map`: then there
-    is no map, and it takes no room."""
-    try:
-        store.write_map(lines, folder)
-    except ToolError as error:
-        shutil.rmtree(folder, ignore_errors=True)
-        if str(folder) in str(error):
-            raise ToolError(f"{error}: {ADVICE}") from error
-        raise
+@contextmanager
+def scratch_files(store: Store, lines: Integers) -> Iterator[MapFiles]:
+    """Gives a map of some lines until the end, in files without names: however this process ends, nothing of them is left. They are for it
+    alone, and for processes that get their descriptors. Raises `ToolError` as `Store.files_of`, or if they can't be written.
+    """
+    made, descriptors = dict[str, Path](), list[int]()
+    files = store.files_of(lines)
+    with ExitStack() as stack:
+        with _made():
+            for name, content in files:
+                file = stack.enter_context(tempfile.TemporaryFile(prefix=PREFIX))
+                descriptors.append(file.fileno())
+                made[name] = Path(f"/proc/self/fd/{file.fileno()}")
+                made[name].write_bytes(content)
+        yield MapFiles(made[NODES], made[LINES], made[BANS], descriptors)
 
 
 @contextmanager
@@ -54,7 +54,13 @@ def scratch_folder() -> Iterator[Path]:
 
 @contextmanager
 def scratch_map(store: Store, lines: Integers) -> Iterator[Path]:
-    """Gives the folder of a map of some lines, and deletes it at the end. Raises `ToolError` as `write_scratch_map`."""
+    """Gives the folder of a map of some lines, and deletes it at the end. Raises `ToolError` as `Store.write_map`."""
     with scratch_folder() as scratch:
-        write_scratch_map(store, lines, scratch / "map")
-        yield scratch / "map"
+        folder = scratch / "map"
+        try:
+            store.write_map(lines, folder)
+        except ToolError as error:
+            if str(folder) in str(error):
+                raise ToolError(f"{error}: {ADVICE}") from error
+            raise
+        yield folder

@@ -249,6 +249,11 @@ class Store:
         with _reading(self.file):
             return self._part_of(lines).sizes()
 
+    def files_of(self, lines: Integers) -> list[tuple[str, bytes | bytearray]]:
+        """The names and contents of the files that `write_map` writes: the nodes come last. Raises `ToolError` as `lines_meeting`."""
+        with _reading(self.file):
+            return self._files(self._part_of(lines))
+
     def write_map(self, lines: Integers, folder: Path) -> None:
         """Writes the map of some lines into a folder, which is made if it isn't there: `nodes.csv`, `lines.csv` and `bans.csv`, by
         rising ids, with the ends of these lines and all bans between them. The same lines give the same bytes. A map that is in the
@@ -256,8 +261,7 @@ class Store:
 
         Raises `ToolError` as `lines_meeting`, or if the folder can't be written; then what is in the folder is no map.
         """
-        with _reading(self.file):
-            files = self._files(self._part_of(lines))
+        files = self.files_of(lines)
         try:
             folder.mkdir(parents=True, exist_ok=True)
             (folder / NODES).unlink(missing_ok=True)
