@@ -18,6 +18,7 @@ from conftest import OF_PROGRAM, TOP, Program
 from olr.client.map_client import opened
 from olr.likely.long_list import LIST
 from olr.matching.columns import ANSWERS
+from olr.matching.kept_columns import kept_columns
 from olr.model.answers import about
 from olr.model.questions import NUMBERS
 from olr.regions.making import make_store_of_folder
@@ -183,12 +184,47 @@ def test_a_series_becomes_a_column() -> None:
     assert olr.locate(named.rename(None), map=EXAMPLES).columns[0] == "ref"
 
 
+def test_messages_of_a_feed(town: olr.Map) -> None:
+    """They are a table as they are: with a fault of their own, which stays."""
+    feed = TOP / "examples/feeds/detectors.csv"
+    messages = pandas.DataFrame(olr.read_feed(feed, "openlr", "id", keep="all"))
+    messages.loc[1, "fault"] = "OtherKind Area"
+    found = olr.locate(messages, "reference", town)
+    own = ["record", "key", "reference", "kept_fault", "kept"]
+    assert list(found.columns) == [*own, *ANSWERS, "geometry"]
+    assert found["kept_fault"].tolist() == [None, "OtherKind Area", None]
+    assert found["fault"].isna().all() and found["verdict"].tolist() == ["unique"] * 3
+    assert found["kept"].tolist() == messages["kept"].tolist() and "fault" in messages
+
+
 def test_columns_of_the_same_name(town: olr.Map) -> None:
-    """They are an error, before anything is asked, or have a prefix."""
+    """They are told apart as members that are kept, or by a prefix. Nothing else of the table has another name."""
+    drawn = geopandas.GeoSeries.from_xy([1], [2], crs="EPSG:25832")
+    others: dict[Any, Any] = {
+        "sources": [SLOW],
+        "Fault": [1],
+        "fault": [2],
+        "Lines": [3],
+        "delay": [4],
+        7: [5],
+    }
+    table = geopandas.GeoDataFrame({**others, "geometry": drawn}).set_crs("EPSG:25832")
+    found = olr.locate(table, "sources", town)
+    texts = [name for name in table.columns if isinstance(name, str)]
+    names = list(kept_columns(dict.fromkeys(texts, "str"), ANSWERS))
+    assert names[1:4] == ["kept_Fault", "kept_fault_2", "kept_Lines"]
+    assert list(found.columns) == [*names[:5], 7, names[5], *ANSWERS, "geometry"]
+    assert found.iloc[0, :6].tolist() == table.iloc[0, :6].tolist()
+    assert found["kept_geometry"].crs.to_epsg() == 25832 and found["kept_geometry"][0].x == 1
+    assert found.crs.to_epsg() == 4326 and found.geometry[0].geom_type == "LineString"
+    # What was located before is kept too, and so are two columns of one name.
+    twice = olr.locate(found.rename(columns={"delay": 7}), "kept_sources", town)
+    assert list(twice.columns)[:7] == [*names[:4], 7, 7, "kept_geometry"]
+    assert list(twice.columns)[-3:] == ["cursor", "fault", "geometry"]
+    assert twice["kept_verdict"].tolist() == twice["verdict"].tolist() == ["unique"]
+    assert twice["kept_sources_2"].tolist() == found["sources"].tolist()
+    assert twice["kept_geometry_2"].crs.to_epsg() == 4326
     table = table_of(SLOW, verdict=["mine"], geometry=["drawn"])
-    town.close()
-    with pytest.raises(ValueError, match="already, verdict, geometry: give a prefix"):
-        olr.locate(table, "ref", town)
     found = olr.locate(table, "ref", EXAMPLES, prefix="olr_")
     assert found.loc[0, ["verdict", "geometry", "olr_verdict"]].tolist() == [
         "mine",

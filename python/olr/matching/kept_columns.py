@@ -1,6 +1,6 @@
 """Members of records that are kept, as columns behind those of a table."""
 
-from collections.abc import Mapping, Sequence
+from collections.abc import Collection, Mapping, Sequence
 from functools import partial
 from typing import Any
 
@@ -15,6 +15,19 @@ PREFIX = "kept_"
 """Stands before a name that a column of ours has."""
 
 
+def kept_name(name: str, ours: Collection[str], taken: set[str]) -> str:
+    """The name of a column that is kept: with `kept_` in front if it is one of ours, and with a number at its end as long as it is taken. Both
+    are compared in whatever case, and have names in that of `str.casefold`. It is taken from then on.
+    """
+    first = PREFIX + name if name.casefold() in ours else name
+    found, number = first, 1
+    while found.casefold() in taken:
+        number += 1
+        found = f"{first}_{number}"
+    taken.add(found.casefold())
+    return found
+
+
 def kept_columns(
     kinds: Mapping[str, MemberKind], columns: Columns[Any]
 ) -> dict[str, Column[Sequence[Message]]]:
@@ -25,13 +38,7 @@ def kept_columns(
     taken, found = set(ours), {}
     for member, kind in kinds.items():
         plain = "".join(letter if letter.isprintable() else " " for letter in member).strip()
-        first = PREFIX + plain if plain.casefold() in ours else plain
-        name, number = first, 1
-        while name.casefold() in taken:
-            number += 1
-            name = f"{first}_{number}"
-        taken.add(name.casefold())
-        found[name] = Column(kind, partial(_values, member, kind))
+        found[kept_name(plain, ours, taken)] = Column(kind, partial(_values, member, kind))
     return found
 
 

@@ -20,6 +20,7 @@ with needed_by("olr.locate", "geo"):
     from olr.likely.long_list import LIST
     from olr.matching.columns import ANSWERS
     from olr.matching.geodataframe import ASKED_WITH, CRS, to_geodataframe
+    from olr.matching.kept_columns import kept_name
     from olr.matching.rows import Extent, Located, require_extent
 
 
@@ -36,6 +37,10 @@ def locate(
 ) -> "geopandas.GeoDataFrame":
     """Where each reference of a table is: the rows of `data`, in their order and with their index and columns, and behind them the columns
     of `to_geodataframe` of the likeliest place of each, in metres and degrees (EPSG:4326). docs/COLUMNS.md has these.
+
+    All columns of `data` stay. One that has a name of the answers', in whatever case, gets `kept_` in front, as `--keep` of the commands has
+    it: `fault` of the table is `kept_fault`, and `fault` is that of the answers. If that is there too it is `kept_fault_2`. With a `prefix`,
+    which stands before the names of the answers, yours stay as they are.
 
     `data` is a DataFrame whose column `ref` has the references, or a Series of them, which becomes a column of that name: by default its
     own. `map` is an `olr.Map`, or the path of a folder or store, which is asked as `olr.Map(path)`: tolerances and profile are those of the
@@ -59,8 +64,8 @@ def locate(
     >>> found.index.tolist(), found.crs.to_string(), found.attrs
     (['a', 'b'], 'EPSG:4326', {'asked_with': {'profile': 'feed'}})
 
-    Raises `ValueError` where `data` has a column of these names already (give a `prefix` for those of the answers, or rename yours), or
-    more than one column `ref`, and for another part or base64; `KeyError` where it has none, and `TypeError` for other things than a table and a map. Raises `ToolError` where
+    Raises `ValueError` where `data` has more than one column `ref`, and for another part or base64; `KeyError` where it has none, and
+    `TypeError` for other things than a table and a map. Raises `ToolError` where
     the `confidence` is for other tolerances, and as `Map.answers` where the map can't be asked: `MapRefused`, `ProgramNotFound`, `ProgramEnded`
     and `TimedOut`, with the number of the row from 1.
     """
@@ -70,11 +75,6 @@ def locate(
         raise TypeError("locate needs a map: give an olr.Map, or the path of one")
     table, cells = _table_of(data, ref)
     columns = {name: f"{prefix}{name}" for name in (*ANSWERS, "geometry")}
-    known = [name for name in columns.values() if name in table.columns]
-    if known:
-        raise ValueError(
-            f"the table has columns of the answers already, {', '.join(known)}: give a prefix, or rename them"
-        )
     texts = [plain_base64(cell, base64) if isinstance(cell, str) else "" for cell in cells]
     with opened(map) as asked:
         sure = judging_with(confidence, asked.tolerances, {}).judging.confidence
@@ -93,7 +93,8 @@ def locate(
                 references=texts,
                 most=1,
             )
-    result = table.assign(**{new: found[name].array for name, new in columns.items()})
+    kept = pandas.DataFrame(table).rename(columns=_kept_names(table, columns.values()))
+    result = kept.assign(**{new: found[name].array for name, new in columns.items()})
     located = geopandas.GeoDataFrame(result, geometry=columns["geometry"], crs=CRS)
     located.attrs = {**data.attrs, ASKED_WITH: asked.asked_with}
     return located
@@ -118,6 +119,14 @@ def _table_of(data: Any, ref: Hashable) -> "tuple[pandas.DataFrame, pandas.Serie
     if not isinstance(cells, pandas.Series):
         raise ValueError(f"the table has more than one column {ref!r}: rename them")
     return data, cells
+
+
+def _kept_names(table: "pandas.DataFrame", names: Iterable[str]) -> dict[Hashable, str]:
+    """Other names for the columns of a table that have one of these names, in whatever case."""
+    ours = {name.casefold() for name in names}
+    labels = {label: label.casefold() for label in table.columns if isinstance(label, str)}
+    taken = ours.union(labels.values())
+    return {label: kept_name(label, ours, taken) for label in labels if labels[label] in ours}
 
 
 def _with_faults(answers: Iterable[Located], cells: "pandas.Series") -> Iterator[Located]:
