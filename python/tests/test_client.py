@@ -195,6 +195,19 @@ def test_names_of_the_answers(top: Path, program: Program) -> None:
         assert wider.match(UNMATCHED).matchings[0].total == 12
 
 
+def test_answers_that_are_lists(top: Path, program: Program) -> None:
+    """Of places and of matchings: without any they are false."""
+    files = (top / "examples" / name for name in ("nodes.csv", "lines.csv"))
+    with olr.Map(*files, program=program.path, profile="program") as town:
+        some, none = (town.places(text) for text in (ROADWORKS, UNMATCHED))
+        assert some and len(some) == 2 and tuple(some) == some.places
+        assert not none and len(none) == 0 and list(none) == []
+        page, empty = (town.match(text) for text in (ROADWORKS, UNMATCHED))
+        assert page and len(page) == len(page.matchings) > 1
+        assert [one.cursor for one in page] == [one.cursor for one in page.matchings]
+        assert not empty and len(empty) == 0 and list(empty) == []
+
+
 def test_more_than_the_pipes_hold(top: Path, program: Program) -> None:
     texts = [f"{number:0300d}" for number in range(PIECE_BYTES // 300)] + [ROADWORKS] * AHEAD * 2
     with olr.Map.of_folder(top / "examples", program=program.path) as town:

@@ -4,7 +4,7 @@ Lengths and positions on lines are in decimetres, distances in centimetres, coor
 docs/specification has what each of them means.
 """
 
-from collections.abc import Mapping, Sequence
+from collections.abc import Iterator, Mapping, Sequence
 from dataclasses import dataclass
 from typing import Any, Literal, TypeVar
 
@@ -193,7 +193,8 @@ class Matching(Displayed):
 
 @dataclass(frozen=True, repr=False)
 class Page(AboutReference):
-    """The first matchings, best first: the answer of `Map.match`.
+    """The first matchings, best first: the answer of `Map.match`. It has the length of its matchings, can be gone through, and is false without
+    any.
 
     >>> import olr
     >>> with olr.Map("examples") as town:
@@ -203,11 +204,19 @@ class Page(AboutReference):
     <Page: 3 matchings, total 12 to 31, more behind 31:1.2>
     >>> [matching.total for matching in page.matchings]
     [12, 16, 31]
+    >>> len(page), [matching.total for matching in page]
+    (3, [12, 16, 31])
     """
 
     matchings: Sequence[Matching]
     next: str | None = None
     """A cursor if there are more."""
+
+    def __len__(self) -> int:
+        return len(self.matchings)
+
+    def __iter__(self) -> Iterator[Matching]:
+        return iter(self.matchings)
 
     def _summary(self) -> str:
         found = self.matchings
@@ -244,7 +253,8 @@ class PlaceOfReference(Displayed):
 
 @dataclass(frozen=True, repr=False)
 class Places(AboutReference):
-    """Whether a reference fits one place of the map, or several: the answer of `Map.places`. `margin` is in penalty points.
+    """Whether a reference fits one place of the map, or several: the answer of `Map.places`. `margin` is in penalty points. It has the length of
+    its places, can be gone through, and is false without any.
 
     >>> import olr
     >>> with olr.Map("examples/nodes.csv", "examples/lines.csv") as town:
@@ -252,8 +262,8 @@ class Places(AboutReference):
     ...
     >>> found
     <Places: ambiguous, 2 places, total 66, margin 7>
-    >>> [(place.gap, place.matching.total) for place in found.places]
-    [(0, 66), (7, 73)]
+    >>> len(found), [(place.gap, place.matching.total) for place in found]
+    (2, [(0, 66), (7, 73)])
     >>> found.to_dict()["places"][0]["matching"]["outer"][0]
     [107, 36, 2150]
     """
@@ -263,6 +273,12 @@ class Places(AboutReference):
     verdict: Literal["unique", "ambiguous", "open", "none"]
     margin: int | None = None
     next: str | None = None
+
+    def __len__(self) -> int:
+        return len(self.places)
+
+    def __iter__(self) -> Iterator[PlaceOfReference]:
+        return iter(self.places)
 
     def _summary(self) -> str:
         words: list[str] = [self.verdict]
