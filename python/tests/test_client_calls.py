@@ -8,6 +8,7 @@ import shutil
 import subprocess
 import sys
 from collections.abc import Callable
+from distributed.protocol.pickle import dumps as dumps_of_dask
 from pathlib import Path
 from typing import Any
 
@@ -39,6 +40,15 @@ def folder(tmp_path: Path) -> Path:
     for name in ("nodes.csv", "lines.csv", "bans.csv"):
         shutil.copy(EXAMPLES / name, tmp_path)
     return tmp_path
+
+
+def test_a_map_in_other_processes(program: Program) -> None:
+    """It can't be there, nor what has it, such as what Dask hands to its workers: they open it by its path."""
+    with olr.Map(EXAMPLES, program=program.path) as town:
+        task = lambda ref: town.places(ref)
+        for given in (town, town.asking(radius=50), town.places, task):
+            with pytest.raises(TypeError, match="owns processes of olr: open it in each process"):
+                dumps_of_dask(given)
 
 
 def test_pages(program: Program) -> None:

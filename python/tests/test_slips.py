@@ -282,7 +282,9 @@ IN_PYTHON = [
     Slip("olr.read_messages('nowhere.tsv')", "nowhere.tsv", "name a file of messages"),
     Slip("olr.read_feed('nowhere.tsv')", "nowhere.tsv", "name a file of messages"),
     Slip("olr.read_messages('feed.tsv', format='tsv')", "'tsv' is no format", "give tab, csv"),
-    Slip("__import__('pickle').dumps(olr.Map('town'))", "can't be pickled", "make one where it is"),
+    Slip(
+        "__import__('pickle').dumps(olr.Map('town'))", "can't be pickled", "open it in each process"
+    ),
     Slip("list(olr.read_messages('feed.tsv', ref='code'))", "feed.tsv", "leave out --ref"),
     Slip("olr.view(REFERENCE, 'nowhere')", "nowhere/nodes.csv", MAP_WANTED),
     Slip("olr.locate(TABLE, 'ref', 'nowhere')", "nowhere/nodes.csv", MAP_WANTED),

@@ -48,8 +48,9 @@ class Map:
     `olr.Map("country.gpkg")` for a store of `olr-tools regions`, a map of any size, of which it reads what a reference needs.
 
     It owns a process `olr answer`, started when it is first asked, which answers all questions with all numbers. It ends with the `with`
-    statement, by `close`, or with Python itself. Several threads may ask one map, of up to so many `processes` at once. All answers,
-    and `network`, are of one version of its files.
+    statement, by `close`, or with Python itself. Several threads may ask one map, of up to so many `processes` at once. Other processes, such
+    as the workers of Dask, open it by its path: it can't be pickled, which is a `TypeError`. All answers, and `network`, are of one version of
+    its files.
 
     A question raises `Fault` where there is no answer, `MapRefused` where `olr` doesn't accept the files or they have changed since
     they were read, `ProgramNotFound` where the program isn't built, `ProgramEnded` where its process was killed, and `TimedOut` where
@@ -147,7 +148,9 @@ class Map:
         return f"<closed {text}>" if self._closed else text
 
     def __reduce__(self) -> NoReturn:
-        raise TypeError("a Map can't be pickled, as it has processes: make one where it is asked")
+        raise TypeError(
+            "a Map can't be pickled, since it owns processes of olr: open it in each process that asks it, by olr.Map(path)"
+        )
 
     def __enter__(self) -> "Map":
         return self
