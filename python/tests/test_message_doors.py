@@ -271,6 +271,22 @@ def test_what_is_kept_in_python(tmp_path: Path) -> None:
     assert dict(one.kept) == {}
 
 
+@pytest.mark.parametrize("read", [olr.read_messages, olr.read_feed])
+def test_a_file_is_looked_for_at_once_and_read_later(read: Any, tmp_path: Path) -> None:
+    """A record at a time, from when the first one is asked for."""
+    file = tmp_path / "feed.jsonl"
+    with pytest.raises(olr.ToolError, match="feed.jsonl can't be read"):
+        read(file)
+    file.write_text("")
+    messages = read(file)
+    file.write_text(f'{{"ref": "{ONE}"}}\n' * 5000 + "damaged\n")
+    assert ONE in next(messages)
+    found = []
+    with pytest.raises(olr.ToolError, match="5001"):
+        found.extend(messages)
+    assert len(found) == 4999
+
+
 def test_words_that_python_doesnt_know() -> None:
     for options, said in (
         ({"format": "yaml"}, "'yaml' is no format: give tab, csv, "),
