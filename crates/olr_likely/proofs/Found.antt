@@ -1,0 +1,54 @@
+-- What is answered of the places that were found by the widest limits.
+use Rattle.std.proofs.Common.{◌≡◌, List, map, ap, ◌∙◌}
+use Rattle.olr_keys.specs.Answers.{AreAnswers}
+use Rattle.olr_keys.specs.Key.{KeyValue}
+use Rattle.olr_keys.specs.Laws.{KeysAreInRange}
+use Rattle.olr_keys.specs.Table.{IsTable}
+use Rattle.olr_road.specs.RoadMap.{RoadMap}
+use Rattle.olr_matching.specs.Layers.{LayersValue}
+use Rattle.olr_places.specs.Looking.{IsLooked, Looked, openers_of}
+use Rattle.olr_places.specs.Places.{ArePlacesOf, entry_of}
+use Rattle.olr_places.specs.Text.{next_after}
+use Rattle.olr_places.specs.declared.limits.PlaceLimits.{PlaceLimits}
+use Rattle.olr_places.specs.declared.places.Places.{Places}
+use Rattle.olr_likely.specs.Answer.{IsAnswerOf}
+use Rattle.olr_likely.specs.Finding.{AreLikelyPlaces, AreWidest}
+use Rattle.olr_likely.specs.Ranked.{AreLookedAt, AreRanked}
+use Rattle.olr_likely.specs.declared.answer.LikelyPlaces.{LikelyPlaces}
+use Rattle.olr_likely.specs.declared.ranked.RankedPlace.{RankedPlace}
+use Rattle.olr_likely.proofs.Widest.{all_listed, keys_low}
+
+module _ (road : RoadMap) (layers : LayersValue) (limits widest : PlaceLimits)
+    (are_widest : AreWidest limits widest) (in_range : KeysAreInRange)
+    (table : IsTable layers.penalties) (answers : List KeyValue) (looked : Looked)
+    (are_answers : AreAnswers layers.penalties answers)
+    (is_looked : IsLooked widest road layers answers looked) (found : Places)
+    (are : ArePlacesOf widest looked found) (places : List RankedPlace)
+    (ranked : AreRanked road found.openers.items places) where
+  open_all : map entry_of found.openers.items ≡ openers_of widest looked.matchings
+  open_all = are.openers ∙ all_listed widest are_widest.within looked.matchings
+      (keys_low widest layers.penalties in_range table answers is_looked.left is_looked.seen
+      looked.matchings is_looked.looked_at.0 are_answers is_looked.keys is_looked.looked_at.1)
+
+  looked_at : AreLookedAt road widest looked.matchings places
+  looked_at = record {
+    openers_are = ap (map entry_of) ranked.openers_are ∙ open_all;
+    counted = rw ranked.openers_are are.counted;
+    ranks = ranked.ranks;
+    costs = ranked.costs;
+  }
+
+  pub are_likely : (likely : LikelyPlaces)
+      → IsAnswerOf limits found.looked found.ending (next_after found.ending found.last) places
+      likely → AreLikelyPlaces limits road layers likely
+  are_likely likely is = record {
+    widest = widest;
+    answers = answers;
+    looked = looked;
+    places = places;
+    are_widest = are_widest;
+    are_answers = are_answers;
+    is_looked = is_looked;
+    are_looked_at = looked_at;
+    is_answer = rw (← are.count, ← are.ending, ← are.last) is;
+  }

@@ -1,0 +1,4 @@
+pub mod Ranked
+pub mod Order
+pub mod Answer
+pub mod Finding

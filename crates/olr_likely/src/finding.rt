@@ -1,0 +1,72 @@
+//! The places of a reference in the likely order, from the layers of its candidates.
+
+ghost use Rattle.std.specs.Prelude.{◌≡◌, All, IfOk};
+ghost use Rattle.olr_matching.specs.Layers.{AreLayersOn};
+ghost use Rattle.olr_matching.specs.Searches.{AreSearchesOn};
+ghost use Rattle.olr_likely.specs.Finding.{AreLikelyPlaces, AreWidest};
+ghost use Rattle.olr_places.specs.Text.{next_after};
+
+use crate::answer::{LikelyPlaces, answer_of};
+use crate::ranked::ranked;
+use olr_base::NoMemory;
+use olr_detail::matchings_can_be_detailed;
+use olr_keys::{Key, keys_are_in_range};
+use olr_matching::{Layers, Searches};
+use olr_places::{Ending, PlaceLimits, Places, places_of};
+use olr_road::Map;
+use std::alloc::Global;
+
+/// The limits by which as many places are looked at as can be asked for.
+fn widest(limits: &PlaceLimits) -> PlaceLimits
+    ensures { AreWidest limits.now result }
+{
+    PlaceLimits {
+        apart: limits.apart,
+        within: 14_620,
+        look: limits.look,
+        most: 100,
+    }
+}
+
+/// The key behind which looking was cut off.
+fn next_after(ending: Ending, last: Option<Key>) -> Option<Key>
+    ensures { result ≡ next_after ending last }
+{
+    match ending {
+        Ending::NoMore | Ending::Beyond(_) => None,
+        Ending::Cut => last,
+    }
+}
+
+/// The places of a reference on a map in the likely order, by its layers there and the searches
+/// that they were built with ([`Layers::build_with_searches`]). At most `look` matchings are looked
+/// at, and at most 100 places. A place is shown where its gap is at most `within`, or its likely
+/// cost at most the least one and `within` penalty points; these by cost, at most `most` of them.
+///
+/// # Errors
+///
+/// [`NoMemory`] where the allocator refused memory.
+pub fn likely_places(
+    alloc: Global,
+    map: &Map,
+    layers: &Layers,
+    searches: Searches,
+    limits: &PlaceLimits,
+) -> Result<LikelyPlaces, NoMemory>
+    requires layers { AreLayersOn map.now layers.now }
+    requires searches { AreSearchesOn map.now searches }
+    ensures { IfOk result (AreLikelyPlaces limits.now map.now layers.now) }
+{
+    matchings_can_be_detailed();
+    keys_are_in_range();
+    let Places {
+        openers,
+        looked,
+        last,
+        ending,
+        ..
+    } = places_of(alloc, map, layers, searches, &widest(limits))?;
+    let places = ranked(alloc, map, openers)?;
+    let likely = answer_of(places, looked, ending, next_after(ending, last), limits)?;
+    Ok(likely)
+}
