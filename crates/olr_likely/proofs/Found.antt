@@ -1,5 +1,7 @@
 -- What is answered of the places that were found by the widest limits.
-use Rattle.std.proofs.Common.{◌≡◌, List, map, ap, ◌∙◌}
+use Rattle.std.proofs.lemmas.List.Elements.{All-filter, All-take}
+use Rattle.std.proofs.lemmas.List.Sorted.{All-permutation}
+use Rattle.std.proofs.Common.{All, ◌≡◌, List, map, ap, ◌∙◌}
 use Rattle.olr_keys.specs.Answers.{AreAnswers}
 use Rattle.olr_keys.specs.Key.{KeyValue}
 use Rattle.olr_keys.specs.Laws.{KeysAreInRange}
@@ -10,13 +12,29 @@ use Rattle.olr_places.specs.Looking.{IsLooked, Looked, openers_of}
 use Rattle.olr_places.specs.Places.{ArePlacesOf, entry_of}
 use Rattle.olr_places.specs.Text.{next_after}
 use Rattle.olr_places.specs.declared.limits.PlaceLimits.{PlaceLimits}
+use Rattle.olr_places.specs.declared.opener.Opener.{Opener}
 use Rattle.olr_places.specs.declared.places.Places.{Places}
 use Rattle.olr_likely.specs.Answer.{IsAnswerOf}
 use Rattle.olr_likely.specs.Finding.{AreLikelyPlaces, AreWidest}
+use Rattle.olr_likely.specs.Order.{AreShown, is_shown, least_cost}
 use Rattle.olr_likely.specs.Ranked.{AreLookedAt, AreRanked}
 use Rattle.olr_likely.specs.declared.answer.LikelyPlaces.{LikelyPlaces}
 use Rattle.olr_likely.specs.declared.ranked.RankedPlace.{RankedPlace}
+use Rattle.olr_likely.proofs.Turns.{all_before}
 use Rattle.olr_likely.proofs.Widest.{all_listed, keys_low}
+
+-- what holds of all openers holds of those of the places that are shown
+pub all_shown : (P : Opener → Type 0) (road : RoadMap) (places shown : List RankedPlace)
+    (limits : PlaceLimits) (openers : List Opener) → AreRanked road openers places
+    → AreShown limits places shown → All P openers
+    → All (λ (place : RankedPlace). P place.opener) shown
+all_shown P road places shown limits openers ranked are all =
+    let Q : RankedPlace → Type 0 = λ place. P place.opener in
+    let of_all : All Q places = all_before P (λ (place : RankedPlace). place.opener) places
+    (rw ranked.openers_are all) in
+    rw are.first (All-take Q limits.most _
+    (All-filter (is_shown limits.within (least_cost places)) Q are.ordered
+    (All-permutation Q places are.ordered are.in_order.same of_all)))
 
 module _ (road : RoadMap) (layers : LayersValue) (limits widest : PlaceLimits)
     (are_widest : AreWidest limits widest) (in_range : KeysAreInRange)

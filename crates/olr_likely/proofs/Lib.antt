@@ -1,5 +1,9 @@
 pub mod Kept
 pub mod Sorting
+pub mod Turns
 pub mod Ranking
 pub mod Widest
 pub mod Found
+pub mod Nested
+pub mod Written
+pub mod Joined

@@ -1,5 +1,5 @@
 -- Places by their openers, with one more.
-use Rattle.std.proofs.Common.{◌≡◌, ◌+◌, List, [], ◌∷◌, ◌++◌, length, refl, ap, ◌∙◌, arith}
+use Rattle.std.proofs.Common.{◌≡◌, ◌+◌, List, [], ◌∷◌, ◌++◌, length, ap, ◌∙◌}
 use Rattle.std.proofs.lemmas.List.{map-append}
 use Rattle.std.proofs.lemmas.List.Elements.{All-push}
 use Rattle.olr_matching.proofs.Lists.{push_each}
@@ -21,7 +21,3 @@ one_more road openers places place are rank cost = record {
   ranks = push_each (λ k (one : RankedPlace). one.rank ≡ k + 1) places place are.ranks rank;
   costs = All-push (HasLikelyCost road) places place are.costs cost;
 }
-
-pub none_left : {X : Type 0} (xs : List X) → length xs ≡ 0 → xs ≡ []
-none_left [] none = refl
-none_left (x ∷ xs) none = absurd (omega arith)

@@ -4,15 +4,16 @@ ghost use Rattle.std.specs.Prelude.{◌≡◌, All, IfOk};
 ghost use Rattle.olr_matching.specs.Layers.{AreLayersOn};
 ghost use Rattle.olr_matching.specs.Searches.{AreSearchesOn};
 ghost use Rattle.olr_likely.specs.Finding.{AreLikelyPlaces, AreWidest};
-ghost use Rattle.olr_places.specs.Text.{next_after};
+ghost use Rattle.olr_places.specs.Places.{IsOpenerAt};
 
 use crate::answer::{LikelyPlaces, answer_of};
 use crate::ranked::ranked;
+use crate::showing::next_after;
 use olr_base::NoMemory;
 use olr_detail::matchings_can_be_detailed;
-use olr_keys::{Key, keys_are_in_range};
+use olr_keys::keys_are_in_range;
 use olr_matching::{Layers, Searches};
-use olr_places::{Ending, PlaceLimits, Places, places_of};
+use olr_places::{PlaceLimits, Places, places_of};
 use olr_road::Map;
 use std::alloc::Global;
 
@@ -25,16 +26,6 @@ fn widest(limits: &PlaceLimits) -> PlaceLimits
         within: 14_620,
         look: limits.look,
         most: 100,
-    }
-}
-
-/// The key behind which looking was cut off.
-fn next_after(ending: Ending, last: Option<Key>) -> Option<Key>
-    ensures { result ≡ next_after ending last }
-{
-    match ending {
-        Ending::NoMore | Ending::Beyond(_) => None,
-        Ending::Cut => last,
     }
 }
 
@@ -55,7 +46,9 @@ pub fn likely_places(
 ) -> Result<LikelyPlaces, NoMemory>
     requires layers { AreLayersOn map.now layers.now }
     requires searches { AreSearchesOn map.now searches }
-    ensures { IfOk result (AreLikelyPlaces limits.now map.now layers.now) }
+    ensures places { IfOk result (AreLikelyPlaces limits.now map.now layers.now) }
+    ensures openers { IfOk result (λ likely.
+        All (λ place. IsOpenerAt map.now layers.now place.opener) likely.places.items) }
 {
     matchings_can_be_detailed();
     keys_are_in_range();

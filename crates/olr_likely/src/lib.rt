@@ -7,13 +7,21 @@
 //! - [`order`]: the likely order, and which places are shown.
 //! - [`answer`]: the verdict, and whether a place that would be shown may have been cut off.
 //! - [`finding`]: [`likely_places`], all of this from layers to places.
+//! - [`showing`]: places as they are shown, in either order, in detail or not.
+//! - [`json`], [`text`]: their JSON and their text.
 #![tactic(auto)]
 
 mod answer;
 mod finding;
+mod json;
 mod order;
 mod ranked;
+mod showing;
+mod text;
 
 pub use answer::LikelyPlaces;
 pub use finding::likely_places;
+pub use json::shown_json;
 pub use ranked::RankedPlace;
+pub use showing::{RankAndCost, ShownPlace, ShownPlaces, in_detail, shown_by_cost, shown_by_total};
+pub use text::shown_text;
