@@ -7,3 +7,4 @@ pub mod Found
 pub mod Nested
 pub mod Written
 pub mod Joined
+pub mod Plain

@@ -5,3 +5,5 @@ pub mod Finding
 pub mod Showing
 pub mod Json
 pub mod Text
+pub mod Asking
+pub mod Laws

@@ -8,20 +8,28 @@
 //! - [`answer`]: the verdict, and whether a place that would be shown may have been cut off.
 //! - [`finding`]: [`likely_places`], all of this from layers to places.
 //! - [`showing`]: places as they are shown, in either order, in detail or not.
+//! - [`asking`]: [`places_asked`], places as they are asked for.
 //! - [`json`], [`text`]: their JSON and their text.
+//!
+//! Beside them, [`laws`] says that in the order of totals, and not in detail, text and JSON are those
+//! of `olr_places`.
 #![tactic(auto)]
 
 mod answer;
+mod asking;
 mod finding;
 mod json;
+mod laws;
 mod order;
 mod ranked;
 mod showing;
 mod text;
 
 pub use answer::LikelyPlaces;
+pub use asking::{PlaceOrder, places_asked};
 pub use finding::likely_places;
 pub use json::shown_json;
+pub use laws::shown_as_places;
 pub use ranked::RankedPlace;
 pub use showing::{RankAndCost, ShownPlace, ShownPlaces, in_detail, shown_by_cost, shown_by_total};
 pub use text::shown_text;

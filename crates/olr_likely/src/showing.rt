@@ -108,9 +108,9 @@ fn places_by_cost(alloc: Global, places: Vec<RankedPlace>) -> Result<Vec<ShownPl
 /// [`NoMemory`] where the allocator refused memory.
 pub fn shown_by_total(alloc: Global, places: Places) -> Result<ShownPlaces, NoMemory>
     ensures shown { IfOk result (AreShownByTotal places) }
-    ensures openers { (road : RoadMap) (layers : LayersValue)
+    ensures openers { IfOk result (λ shown. (road : RoadMap) (layers : LayersValue)
         → All (IsOpenerAt road layers) places.openers.items
-        → IfOk result (λ shown. All (IsShownAt road layers) shown.places.items) }
+        → All (IsShownAt road layers) shown.places.items) }
 {
     let verdict = places.verdict();
     let Places {
@@ -137,9 +137,9 @@ pub fn shown_by_total(alloc: Global, places: Places) -> Result<ShownPlaces, NoMe
 /// [`NoMemory`] where the allocator refused memory.
 pub fn shown_by_cost(alloc: Global, likely: LikelyPlaces) -> Result<ShownPlaces, NoMemory>
     ensures shown { IfOk result (AreShownByCost likely) }
-    ensures openers { (road : RoadMap) (layers : LayersValue)
+    ensures openers { IfOk result (λ shown. (road : RoadMap) (layers : LayersValue)
         → All (λ place. IsOpenerAt road layers place.opener) likely.places.items
-        → IfOk result (λ shown. All (IsShownAt road layers) shown.places.items) }
+        → All (IsShownAt road layers) shown.places.items) }
 {
     let LikelyPlaces {
         places,
