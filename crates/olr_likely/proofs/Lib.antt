@@ -8,3 +8,5 @@ pub mod Nested
 pub mod Written
 pub mod Joined
 pub mod Plain
+pub mod Likeliest
+pub mod Missing

@@ -7,3 +7,4 @@ pub mod Json
 pub mod Text
 pub mod Asking
 pub mod Laws
+pub mod LikelyLaws

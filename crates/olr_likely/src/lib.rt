@@ -12,7 +12,7 @@
 //! - [`json`], [`text`]: their JSON and their text.
 //!
 //! Beside them, [`laws`] says that in the order of totals, and not in detail, text and JSON are those
-//! of `olr_places`.
+//! of `olr_places`; [`likely_laws`], that the likeliest place is shown first, and what `cut` says.
 #![tactic(auto)]
 
 mod answer;
@@ -20,6 +20,7 @@ mod asking;
 mod finding;
 mod json;
 mod laws;
+mod likely_laws;
 mod order;
 mod ranked;
 mod showing;
@@ -30,6 +31,7 @@ pub use asking::{PlaceOrder, places_asked};
 pub use finding::likely_places;
 pub use json::shown_json;
 pub use laws::shown_as_places;
+pub use likely_laws::{likeliest_is_first, none_is_missing};
 pub use ranked::RankedPlace;
 pub use showing::{RankAndCost, ShownPlace, ShownPlaces, in_detail, shown_by_cost, shown_by_total};
 pub use text::shown_text;
