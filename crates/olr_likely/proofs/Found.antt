@@ -45,8 +45,8 @@ module _ (road : RoadMap) (layers : LayersValue) (limits widest : PlaceLimits)
     (ranked : AreRanked road found.openers.items places) where
   open_all : map entry_of found.openers.items ≡ openers_of widest looked.matchings
   open_all = are.openers ∙ all_listed widest are_widest.within looked.matchings
-      (keys_low widest layers.penalties in_range table answers is_looked.left is_looked.seen
-      looked.matchings is_looked.looked_at.0 are_answers is_looked.keys is_looked.looked_at.1)
+      (keys_low answers is_looked.left is_looked.seen looked.matchings is_looked.looked_at.0
+      is_looked.keys is_looked.looked_at.1 layers.penalties are_answers in_range table)
 
   looked_at : AreLookedAt road widest looked.matchings places
   looked_at = record {

@@ -42,7 +42,7 @@ at_most_least cost first (next ∷ places) all =
     let rest = at_most_least cost next places (λ k d inside. all (suc k) d (omega arith)) in
     omega arith
 
-any_least : (cost : ℕ) (places : List RankedPlace) (place : RankedPlace) → Contains places place
+pub any_least : (cost : ℕ) (places : List RankedPlace) (place : RankedPlace) → Contains places place
     → All (CostsAtLeast cost) places → cost ≤ least_cost places
 any_least cost [] place (k, inside, is) all = absurd (omega arith)
 any_least cost (first ∷ places) place is all = at_most_least cost first places all

@@ -1,5 +1,6 @@
 -- Looking by the widest limits: no gap is greater, so each place that opens is listed.
-use Rattle.std.proofs.Common.{◌≡◌, ◌<◌, ◌≤◌, Bool, true, List, [], ◌∷◌, ◌++◌, length, length-append, filter, get_or, All, refl, ap, ◌∙◌, inl, inr, arith}
+use Rattle.olr_keys.specs.Matching.{IsKey}
+use Rattle.std.proofs.Common.{◌≡◌, ◌<◌, ◌≤◌, Bool, true, List, [], ◌∷◌, ◌++◌, length, length-append, filter, get_or, All, refl, ap, ◌∙◌, inl, inr, arith, ℕ, subst}
 use Rattle.std.proofs.lemmas.Bool.{cases_Bool, le-leb}
 use Rattle.std.proofs.lemmas.List.{get_or-map, get_or_append_left, length-map}
 use Rattle.std.proofs.lemmas.List.Elements.{All-head, All-nil, All-push, All-tail, All-weaker}
@@ -22,7 +23,7 @@ all_kept p (x ∷ xs) all =
 
 module _ (limits : PlaceLimits) where
   -- what holds of all matchings holds of those that open a place
-  all_open : (P : Entry → Type 0) (openers entries : List Entry) → All P openers
+  pub all_open : (P : Entry → Type 0) (openers entries : List Entry) → All P openers
       → All P entries → All P (openers_on limits openers entries)
   all_open P openers [] so_far all = so_far
   all_open P openers (one ∷ left) so_far all = elim (cases_Bool (belongs limits openers one)) [
@@ -48,28 +49,44 @@ module _ (limits : PlaceLimits) where
       (within_gap widest matchings) (openers_of limits matchings)
       (all_open IsLow [] matchings (All-nil IsLow) low))
 
-  -- the keys of matchings are low
-  pub keys_low : (penalties : Penalties) → KeysAreInRange → IsTable penalties
-      → (answers left : List KeyValue) (seen matchings behind : List Entry)
-      → AreAnswers penalties answers → answers ≡ keys_of seen ++ left
-      → seen ≡ matchings ++ behind → All IsLow matchings
-  keys_low penalties in_range table answers left seen matchings behind are keys looked k d inside =
-      let one_at : get_or seen k d ≡ get_or matchings k d =
-      rw looked (get_or_append_left matchings behind d k inside) in
-      let in_seen : k < length seen =
-      omega (arith, ap (λ (l : List Entry). length l) looked, length-append matchings behind) in
+-- the matchings that were looked at are those of the first answers
+module _ (answers left : List KeyValue) (seen matchings behind : List Entry)
+    (keys : answers ≡ keys_of seen ++ left) (looked : seen ≡ matchings ++ behind) where
+  pub seen_at : (k : ℕ) (d : Entry) → k < length matchings
+      → (get_or seen k d ≡ get_or matchings k d) × (k < length seen)
+  seen_at k d inside = (
+    rw looked (get_or_append_left matchings behind d k inside),
+    omega (arith, ap (λ (l : List Entry). length l) looked, length-append matchings behind),
+  )
+
+  pub answer_at : (k : ℕ) (d : Entry) → k < length matchings
+      → (get_or answers k d.key ≡ (get_or matchings k d).key) × (k < length answers)
+  answer_at k d inside =
+      let one = seen_at k d inside in
       let key_at : get_or (keys_of seen) k d.key ≡ (get_or seen k d).key =
-      get_or-map (λ (one : Entry). one.key) seen k d d.key in_seen in
+      get_or-map (λ (one : Entry). one.key) seen k d d.key one.1 in
       let in_keys : k < length (keys_of seen) =
-      omega (arith, length-map seen (λ (one : Entry). one.key)) in
-      let answer_at : get_or answers k d.key ≡ get_or (keys_of seen) k d.key =
-      rw keys (get_or_append_left (keys_of seen) left d.key k in_keys) in
-      let in_answers : k < length answers =
-      omega (arith, ap (λ (l : List KeyValue). length l) keys, length-append (keys_of seen) left) in
-      let range = in_range penalties _ table (are.only k d.key in_answers) in
-      omega (
-        arith,
-        range.total_at_most,
-        ap (λ (key : KeyValue). key.total) (answer_at ∙ key_at),
-        ap (λ (one : Entry). one.key.total) one_at,
+      omega (arith, one.1, length-map seen (λ (one : Entry). one.key)) in
+      let first : get_or answers k d.key ≡ get_or (keys_of seen) k d.key =
+      rw keys (get_or_append_left (keys_of seen) left d.key k in_keys) in (
+        first ∙ key_at ∙ ap (λ (one : Entry). one.key) one.0,
+        omega (
+          arith,
+          in_keys,
+          ap (λ (l : List KeyValue). length l) keys,
+          length-append (keys_of seen) left,
+        ),
       )
+
+  module _ (penalties : Penalties) (are : AreAnswers penalties answers) where
+    -- their keys are those of matchings
+    pub keys_are : All (λ (one : Entry). IsKey penalties one.key) matchings
+    keys_are k d inside =
+        let answer = answer_at k d inside in
+        subst (IsKey penalties) answer.0 (are.only k d.key answer.1)
+
+    -- so they are low
+    pub keys_low : KeysAreInRange → IsTable penalties
+        → All (λ (one : Entry). one.key.total ≤ 14620) matchings
+    keys_low in_range table k d inside =
+        (in_range penalties _ table (keys_are k d inside)).total_at_most

@@ -33,8 +33,8 @@ verdict_by looked listed count ending =
     else if nat_le 2 listed then verdict.Ambiguous
     else if nat_lt listed count then verdict.Unique else verdict_of_one ending
 
--- Whether a place may be missing that would be shown by its cost, where looking was cut off behind
--- the matching of a key: no matching behind it costs less than 6 times the total of this one.
+-- Whether a place may be missing that would be shown, where looking was cut off behind the matching
+-- of a key: no matching behind it costs less than 6 times the total of this one.
 abbrev pub is_cut : ℕ → List RankedPlace → Option KeyValue → Bool
 is_cut within [] next = false
 is_cut within (place ∷ places) None = false

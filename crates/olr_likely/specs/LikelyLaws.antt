@@ -1,5 +1,5 @@
 -- Laws on the likely order. Each is the contract of a public function that does nothing at run time.
-use Rattle.std.specs.Prelude.{◌≡◌, ◌+◌, ◌*◌, ◌<◌, ◌≤◌, Bool, false, List, length, Some, slice_get, All, AllPairs, Contains}
+use Rattle.std.specs.Prelude.{◌≡◌, ◌+◌, ◌*◌, ◌<◌, ◌≤◌, Bool, false, List, length, Some, slice_get, All, AllPairs, Contains, ℕ}
 use Rattle.olr_keys.specs.Key.{IsBefore, KeyValue}
 use Rattle.olr_keys.specs.Matching.{IsKey}
 use Rattle.olr_road.specs.RoadMap.{RoadMap}
@@ -7,6 +7,8 @@ use Rattle.olr_matching.specs.Layers.{AreLayersOn, LayersValue}
 use Rattle.olr_matching.specs.Matched.{IsMatchedBy}
 use Rattle.olr_matching.specs.declared.matched.Matched.{Matched}
 use Rattle.olr_detail.specs.Cost.{cost_of}
+use Rattle.olr_report.specs.Entries.{Entry}
+use Rattle.olr_places.specs.Looking.{gap_of}
 use Rattle.olr_places.specs.declared.limits.PlaceLimits.{PlaceLimits}
 use Rattle.olr_likely.specs.Finding.{AreLikelyPlaces}
 use Rattle.olr_likely.specs.Order.{AreShown, IsLikelier, least_cost}
@@ -43,12 +45,19 @@ CostsAreAtLeast = (road : RoadMap) (layers : LayersValue) (key : KeyValue) (matc
     (turns_back : Bool) → AreLayersOn road layers → IsKey layers.penalties key
     → IsMatchedBy road layers key matched → 6 * key.total ≤ cost_of road matched turns_back
 
--- Where looking was cut off behind a key, and no place is said to be missing, a matching behind this
--- key costs more than the least cost of the places that were looked at and what is asked for.
+-- a matching with this key and this cost wouldn't be shown, by its gap or by its cost
+pub record IsBeyond (within least : ℕ) (matchings : List Entry) (key : KeyValue) (cost : ℕ)
+    : Type 0 where
+  pub gap : within < gap_of matchings key
+  pub cost_is : least + 30 * within < cost
+
+-- Where looking was cut off behind a key, and no place is said to be missing, no matching behind
+-- this key would be shown.
 abbrev pub NoneIsMissing : Type 0
 NoneIsMissing = (limits : PlaceLimits) (road : RoadMap) (layers : LayersValue)
     (likely : LikelyPlaces) (last key : KeyValue) (matched : Matched) (turns_back : Bool)
     (are : AreLikelyPlaces limits road layers likely)
     → AreLayersOn road layers → likely.cut ≡ false → likely.next ≡ Some last
     → IsKey layers.penalties key → IsMatchedBy road layers key matched → IsBefore last key
-    → least_cost are.places + 30 * limits.within < cost_of road matched turns_back
+    → IsBeyond limits.within (least_cost are.places) are.looked.matchings key
+    (cost_of road matched turns_back)

@@ -22,7 +22,7 @@ pub struct LikelyPlaces {
     pub next: Option<Key>,
     /// The gap of the second place that was looked at, in penalty points.
     pub margin: Option<u32>,
-    /// Whether a place may be missing that would be shown by its cost.
+    /// Whether a place may be missing that would be shown.
     pub cut: bool,
     /// Whether the match is unique.
     pub verdict: Verdict,
@@ -66,8 +66,8 @@ fn verdict_by(looked: u32, listed: usize, count: usize, ending: Ending) -> Verdi
     }
 }
 
-/// Whether a place may be missing that would be shown by its cost, where looking was cut off behind
-/// `next`. A cost is at least 6 times the total.
+/// Whether a place may be missing that would be shown, where looking was cut off behind `next`. A
+/// cost is at least 6 times the total.
 fn is_cut(places: &[RankedPlace], next: Option<&Key>, within: u32) -> bool
     ensures { result ≡ is_cut within places.now (option_map (λ key. key.now) next.entry) }
 {

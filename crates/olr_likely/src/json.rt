@@ -110,8 +110,8 @@ impl ToJson<OnMap<'_>> for ShownPlaces {
 /// order of their names. It has how many matchings were `looked` at, the `margin` or null, as
 /// `next` the cursor after which looking would go on, or null, the `places`, and the `verdict`. A
 /// place has its `gap`, its opener as `matching`, and its `members`. In the likely order a place has
-/// its `cost` and its `rank` too, and the whole has `cut`, whether a place may be missing that would
-/// be shown by its cost. In detail a matching is as [`olr_detail::json_page_in_detail`] has it.
+/// its `cost` and its `rank` too, and the whole has `cut`, whether a place may be missing. In detail
+/// a matching is as [`olr_detail::json_page_in_detail`] has it.
 ///
 /// # Errors
 ///

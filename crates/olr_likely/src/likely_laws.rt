@@ -13,7 +13,7 @@ pub fn likeliest_is_first()
 {}
 
 /// No matching costs less than 6 times its total. So where looking was cut off, and no place is
-/// said to be missing, no matching behind would be shown by its cost.
+/// said to be missing, no matching behind would be shown, by its gap or by its cost.
 pub fn none_is_missing()
     ensures at_least { CostsAreAtLeast }
     ensures none_missing { NoneIsMissing }

@@ -52,7 +52,7 @@ pub struct ShownPlaces {
     pub margin: Option<u32>,
     /// The key after which looking would go on, where it was cut off.
     pub next: Option<Key>,
-    /// In the likely order, whether a place may be missing that would be shown by its cost.
+    /// In the likely order, whether a place may be missing that would be shown.
     pub cut: Option<bool>,
     /// Whether the match is unique.
     pub verdict: Verdict,
