@@ -8,9 +8,6 @@ use Rattle.olr_places.specs.declared.opener.Opener.{Opener}
 use Rattle.olr_likely.specs.Ranked.{AreRanked, HasLikelyCost}
 use Rattle.olr_likely.specs.declared.ranked.RankedPlace.{RankedPlace}
 
-opener_of : RankedPlace → Opener
-opener_of place = place.opener
-
 pub one_more : (road : RoadMap) (openers : List Opener) (places : List RankedPlace)
     (place : RankedPlace) → AreRanked road openers places → place.rank ≡ length places + 1
     → HasLikelyCost road place

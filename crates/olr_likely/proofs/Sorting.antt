@@ -11,12 +11,15 @@ use Rattle.olr_likely.specs.Ranked.{AreNumbered}
 use Rattle.olr_likely.specs.declared.ranked.RankedPlace.{RankedPlace}
 use Rattle.olr_likely.proofs.Kept.{two_kept}
 
+-- a number isn't less than the same one
 not_less : (m n : ℕ) → m ≡ n → is_lt (nat_cmp m n) ≡ false
 not_less m n same = grind (arith, cases_Bool, le-ltb)
 
+-- a place opened before another one
 IsEarlier : RankedPlace → RankedPlace → Type 0
 IsEarlier one other = one.rank < other.rank
 
+-- numbered places are in the order in which they opened
 numbered : (places : List RankedPlace) → AreNumbered places → AllPairs IsEarlier places
 unfolding IsEarlier
 numbered places are i j d less inside =
@@ -32,6 +35,7 @@ module _ (places ordered : List RankedPlace) (are : AreNumbered places)
   ties_with : RankedPlace → RankedPlace → Bool
   ties_with one = ties (λ (a b : RankedPlace). is_lt (nat_cmp a.likely.cost b.likely.cost)) one
 
+  -- places of one cost do
   ties_by_cost : (one other : RankedPlace) → one.likely.cost ≡ other.likely.cost
       → ties_with one other ≡ true
   unfolding ties_with
@@ -41,11 +45,13 @@ module _ (places ordered : List RankedPlace) (are : AreNumbered places)
         not_less other.likely.cost one.likely.cost (sym alike),
       ) refl
 
+  -- those of one cost are in the order in which they opened
   of_one_cost : (one : RankedPlace) → AllPairs IsEarlier (filter (ties_with one) ordered)
   unfolding ties_with
   of_one_cost one = rw (stable one)
       (AllPairs-filter IsEarlier (ties_with one) places (numbered places are))
 
+  -- so all are in the likely order
   in_order : AllPairs IsLikelier ordered
   unfolding IsEarlier
   in_order i j d less inside =
