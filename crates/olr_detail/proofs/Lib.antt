@@ -3,3 +3,5 @@ pub mod Matchings
 pub mod Pushed
 pub mod Written
 pub mod Pages
+mod OneNear
+mod OneDetail

@@ -8,3 +8,4 @@ pub mod Json
 pub mod Text
 pub mod Page
 pub mod Listing
+pub mod Laws

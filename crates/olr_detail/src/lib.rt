@@ -10,11 +10,13 @@
 //! - [`matching_detail`]: all of these for a matching.
 //! - [`json`] and [`text`]: how these are shown.
 //! - [`page`]: a page of matchings; [`listing`]: the candidates of a reference's points.
+//! - [`laws`]: what speaks for them is one thing.
 #![tactic(auto)]
 
 mod candidate_detail;
 mod cost;
 mod json;
+mod laws;
 mod leg_detail;
 mod listing;
 mod matching_detail;
@@ -25,6 +27,7 @@ mod turning;
 pub use candidate_detail::{CandidateDetail, PenaltyParts, detail_of_candidate};
 pub use cost::{LikelyCost, likely_cost};
 pub use json::ShownInDetail;
+pub use laws::one_detail;
 pub use leg_detail::{LegDetail, detail_of_leg};
 pub use listing::{PointDetails, listing_details, listing_json, listing_text};
 pub use matching_detail::{
