@@ -8,5 +8,8 @@ pub mod Nested
 pub mod Written
 pub mod Joined
 pub mod Plain
+pub mod Values
+pub mod OneOrder
+pub mod OneAnswer
 pub mod Likeliest
 pub mod Missing

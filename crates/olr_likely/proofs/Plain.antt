@@ -60,7 +60,7 @@ module _ (road : RoadMap) where
 
 module _ {limits : PlaceLimits} {looked : Looked} {places : Places} {shown : ShownPlaces}
     (are : ArePlacesOf limits looked places) (is : AreShownByTotal places shown) where
-  verdict_is : shown.verdict ≡ verdict_of limits looked
+  pub verdict_is : shown.verdict ≡ verdict_of limits looked
   verdict_is =
       let listed : length places.openers.items ≡ length (listed_of limits looked.matchings) =
       sym (length-map places.openers.items entry_of)
@@ -69,7 +69,7 @@ module _ {limits : PlaceLimits} {looked : Looked} {places : Places} {shown : Sho
       rw (are.count, listed, are.ending) refl in
       is.verdict_is ∙ same
 
-  next_is : shown.next ≡ next_of looked
+  pub next_is : shown.next ≡ next_of looked
   next_is =
       let same : next_after places.ending places.last ≡ next_of looked =
       rw (are.ending, are.last) refl in

@@ -8,3 +8,4 @@ pub mod Text
 pub mod Asking
 pub mod Laws
 pub mod LikelyLaws
+pub mod OneAnswer

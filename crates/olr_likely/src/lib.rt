@@ -12,7 +12,8 @@
 //! - [`json`], [`text`]: their JSON and their text.
 //!
 //! Beside them, [`laws`] says that in the order of totals, and not in detail, text and JSON are those
-//! of `olr_places`; [`likely_laws`], that the likeliest place is shown first, and what `cut` says.
+//! of `olr_places`; [`likely_laws`], that the likeliest place is shown first, and what `cut` says;
+//! [`one_answer`], that what is asked has one text and one JSON.
 #![tactic(auto)]
 
 mod answer;
@@ -21,6 +22,7 @@ mod finding;
 mod json;
 mod laws;
 mod likely_laws;
+mod one_answer;
 mod order;
 mod ranked;
 mod showing;
@@ -32,6 +34,7 @@ pub use finding::likely_places;
 pub use json::shown_json;
 pub use laws::shown_as_places;
 pub use likely_laws::{likeliest_is_first, none_is_missing};
+pub use one_answer::one_shown;
 pub use ranked::RankedPlace;
 pub use showing::{RankAndCost, ShownPlace, ShownPlaces, in_detail, shown_by_cost, shown_by_total};
 pub use text::shown_text;

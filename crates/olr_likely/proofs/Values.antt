@@ -1,0 +1,175 @@
+-- Places by what text and JSON show of them, which is one value.
+use Rattle.std.proofs.Common.{◌≡◌, ℕ, ◌+◌, Bool, List, [], ◌∷◌, ◌++◌, map, Option, None, Some, refl, sym, ap, ◌∙◌}
+use Rattle.olr_road.specs.RoadMap.{RoadMap}
+use Rattle.olr_text.specs.Texts.{texts_from}
+use Rattle.olr_detail.specs.declared.cost.LikelyCost.{LikelyCost}
+use Rattle.olr_detail.specs.declared.matching_detail.MatchingDetail.{MatchingDetail}
+use Rattle.olr_report.specs.Entries.{Entry}
+use Rattle.olr_report.specs.Json.{entry_object}
+use Rattle.olr_places.specs.Places.{entry_of}
+use Rattle.olr_places.specs.declared.opener.Opener.{Opener}
+use Rattle.olr_likely.specs.Json.{opener_object, place_object, place_object_by, shown_object, shown_object_by}
+use Rattle.olr_likely.specs.Text.{place_rows, shown_text}
+use Rattle.olr_likely.specs.declared.ranked.RankedPlace.{RankedPlace}
+use Rattle.olr_likely.specs.declared.showing.RankAndCost.{RankAndCost}
+use Rattle.olr_likely.specs.declared.showing.ShownPlace.{ShownPlace}
+use Rattle.olr_likely.specs.declared.showing.ShownPlaces.{ShownPlaces}
+
+-- ---- lists
+
+pub same_parts : {X : Type 0} (x y : X) (xs ys : List X) → x ∷ xs ≡ y ∷ ys → (x ≡ y) × (xs ≡ ys)
+same_parts x y xs ys same = (cc, cc)
+
+-- what is made of what items are mapped to is the same
+pub same_made : {X Y Z : Type 0} (g : X → Y) (f : X → Z) (h : Y → Z)
+    → ((x : X) → f x ≡ h (g x)) → (xs ys : List X) → map g xs ≡ map g ys → map f xs ≡ map f ys
+same_made g f h each [] [] same = refl
+same_made g f h each [] (y ∷ ys) same = absurd cc
+same_made g f h each (x ∷ xs) [] same = absurd cc
+same_made g f h each (x ∷ xs) (y ∷ ys) same =
+    let parts = same_parts (g x) (g y) (map g xs) (map g ys) same in
+    let first = each x ∙ ap h parts.0 ∙ sym (each y) in
+    let rest = same_made g f h each xs ys parts.1 in
+    λ k. first k ∷ rest k
+
+-- ---- values
+
+-- of an opener
+pub record OpenerValue : Type 0 where
+  pub entry : Entry
+  pub gap : ℕ
+  pub members : ℕ
+
+abbrev pub opener_value : Opener → OpenerValue
+opener_value opener =
+    record { entry = entry_of opener; gap = opener.gap; members = opener.members }
+
+-- of a place that was looked at
+pub record RankedValue : Type 0 where
+  pub opener : OpenerValue
+  pub rank : ℕ
+  pub likely : LikelyCost
+
+abbrev pub ranked_value : RankedPlace → RankedValue
+ranked_value place =
+    record { opener = opener_value place.opener; rank = place.rank; likely = place.likely }
+
+-- of a place that is shown
+pub record ShownValue : Type 0 where
+  pub opener : OpenerValue
+  pub likely : Option RankAndCost
+  pub detail : Option MatchingDetail
+
+abbrev pub shown_value : ShownPlace → ShownValue
+shown_value place =
+    record { opener = opener_value place.opener; likely = place.likely; detail = place.detail }
+
+-- places as they are shown have the same values
+pub record AreAlike (one other : ShownPlaces) : Type 0 where
+  pub places : map shown_value one.places.items ≡ map shown_value other.places.items
+  pub looked : one.looked ≡ other.looked
+  pub margin : one.margin ≡ other.margin
+  pub next : one.next ≡ other.next
+  pub cut : one.cut ≡ other.cut
+  pub verdict : one.verdict ≡ other.verdict
+
+-- ---- what is shown
+
+module _ (road : RoadMap) where
+  same_rows : (number : ℕ) (one other : ShownPlace) → shown_value one ≡ shown_value other
+      → place_rows road number one ≡ place_rows road number other
+  same_rows number one other same = rw (
+    ap (λ (value : ShownValue). value.opener.entry.key) same,
+    ap (λ (value : ShownValue). value.opener.gap) same,
+    ap (λ (value : ShownValue). value.opener.members) same,
+    ap (λ (value : ShownValue). value.likely) same,
+    ap (λ (value : ShownValue). value.detail) same,
+    ap (λ (value : ShownValue). value.opener.entry.located) same,
+  ) refl
+
+  same_texts : (number : ℕ) (ones others : List ShownPlace)
+      → map shown_value ones ≡ map shown_value others
+      → texts_from (place_rows road) number ones ≡ texts_from (place_rows road) number others
+  same_texts number [] [] same = refl
+  same_texts number [] (other ∷ others) same = absurd cc
+  same_texts number (one ∷ ones) [] same = absurd cc
+  same_texts number (one ∷ ones) (other ∷ others) same =
+      let parts = same_parts (shown_value one) (shown_value other) (map shown_value ones)
+      (map shown_value others) same in
+      let first = same_rows number one other parts.0 in
+      let rest = same_texts (number + 1) ones others parts.1 in
+      λ k. first k ++ rest k
+
+  pub same_text : (one other : ShownPlaces) → AreAlike one other
+      → shown_text road one ≡ shown_text road other
+  same_text one other are = rw (
+    same_texts 1 one.places.items other.places.items are.places,
+    are.looked,
+    are.margin,
+    are.verdict,
+    are.next,
+  ) refl
+
+  same_opener : (one other : Opener) (detail : Option MatchingDetail)
+      → opener_value one ≡ opener_value other
+      → opener_object road one detail ≡ opener_object road other detail
+  same_opener one other None same =
+      ap (λ (value : OpenerValue). entry_object road value.entry) same
+  same_opener one other (Some detail) same = rw (
+    ap (λ (value : OpenerValue). value.entry.key) same,
+    ap (λ (value : OpenerValue). value.entry.route) same,
+    ap (λ (value : OpenerValue). value.entry.located) same,
+  ) refl
+
+  same_object_by : (one other : ShownPlace) (likely : Option RankAndCost)
+      → opener_object road one.opener one.detail ≡ opener_object road other.opener other.detail
+      → one.opener.gap ≡ other.opener.gap → one.opener.members ≡ other.opener.members
+      → place_object_by road one likely ≡ place_object_by road other likely
+  same_object_by one other None matching gap members = rw (matching, gap, members) refl
+  same_object_by one other (Some likely) matching gap members = rw (matching, gap, members) refl
+
+  same_object : (one other : ShownPlace) → shown_value one ≡ shown_value other
+      → place_object road one ≡ place_object road other
+  same_object one other same =
+      same_object_by one other one.likely
+      (same_opener one.opener other.opener one.detail
+      (ap (λ (value : ShownValue). value.opener) same)
+      ∙ ap (opener_object road other.opener) (ap (λ (value : ShownValue). value.detail) same))
+      (ap (λ (value : ShownValue). value.opener.gap) same)
+      (ap (λ (value : ShownValue). value.opener.members) same)
+      ∙ ap (place_object_by road other) (ap (λ (value : ShownValue). value.likely) same)
+
+  same_objects : (ones others : List ShownPlace)
+      → map shown_value ones ≡ map shown_value others
+      → map (place_object road) ones ≡ map (place_object road) others
+  same_objects [] [] same = refl
+  same_objects [] (other ∷ others) same = absurd cc
+  same_objects (one ∷ ones) [] same = absurd cc
+  same_objects (one ∷ ones) (other ∷ others) same =
+      let parts = same_parts (shown_value one) (shown_value other) (map shown_value ones)
+      (map shown_value others) same in
+      let first = same_object one other parts.0 in
+      let rest = same_objects ones others parts.1 in
+      λ k. first k ∷ rest k
+
+  same_members : (one other : ShownPlaces) (cut : Option Bool) → AreAlike one other
+      → shown_object_by road one cut ≡ shown_object_by road other cut
+  same_members one other None are = rw (
+    same_objects one.places.items other.places.items are.places,
+    are.looked,
+    are.margin,
+    are.verdict,
+    are.next,
+  ) refl
+  same_members one other (Some cut) are = rw (
+    same_objects one.places.items other.places.items are.places,
+    are.looked,
+    are.margin,
+    are.verdict,
+    are.next,
+  ) refl
+
+  pub same_json : (one other : ShownPlaces) → AreAlike one other
+      → shown_object road one ≡ shown_object road other
+  same_json one other are =
+      same_members one other one.cut are ∙ ap (shown_object_by road other) are.cut

@@ -1,0 +1,47 @@
+-- What is asked is one thing: places as they are asked for have one text and one JSON. The laws are
+-- the contract of a public function that does nothing at run time.
+use Rattle.std.specs.Prelude.{◌≡◌, Bool, List}
+use Rattle.olr_keys.specs.Key.{KeyValue}
+use Rattle.olr_keys.specs.Laws.{OneList}
+use Rattle.olr_road.specs.RoadMap.{IsSoundMap, RoadMap}
+use Rattle.olr_matching.specs.Layers.{LayersValue}
+use Rattle.olr_detail.specs.Laws.{OneMatchingDetail}
+use Rattle.olr_places.specs.Looking.{IsLooked, Looked}
+use Rattle.olr_places.specs.declared.limits.PlaceLimits.{PlaceLimits}
+use Rattle.olr_likely.specs.Asking.{AreAsked}
+use Rattle.olr_likely.specs.Json.{shown_object}
+use Rattle.olr_likely.specs.Text.{shown_text}
+use Rattle.olr_likely.specs.declared.asking.PlaceOrder.{PlaceOrder}
+use Rattle.olr_likely.specs.declared.showing.ShownPlaces.{ShownPlaces}
+
+-- Looking at the matchings of a reference on a map gives one value at most. Here this is a premise:
+-- it is a law of `olr_places_laws`, and no crate of the program stands on that one.
+abbrev pub OneLooking : Type 0
+OneLooking = (limits : PlaceLimits) (road : RoadMap) (layers : LayersValue)
+    (answers : List KeyValue) (looked other : Looked) → IsSoundMap road
+    → IsLooked limits road layers answers looked → IsLooked limits road layers answers other
+    → looked ≡ other
+
+-- Places that are asked for by the same limits on the same map, of the same layers, in the same
+-- order, and both in detail or both not, have the same text
+abbrev pub OneText : Type 0
+OneText = OneLooking → (limits : PlaceLimits) (road : RoadMap) (layers : LayersValue)
+    (order : PlaceOrder) (detailed : Bool) (one other : ShownPlaces) → IsSoundMap road
+    → AreAsked limits road layers order detailed one
+    → AreAsked limits road layers order detailed other
+    → shown_text road one ≡ shown_text road other
+
+-- and the same JSON
+abbrev pub OneJson : Type 0
+OneJson = OneLooking → (limits : PlaceLimits) (road : RoadMap) (layers : LayersValue)
+    (order : PlaceOrder) (detailed : Bool) (one other : ShownPlaces) → IsSoundMap road
+    → AreAsked limits road layers order detailed one
+    → AreAsked limits road layers order detailed other
+    → shown_object road one ≡ shown_object road other
+
+-- ---- what these rest on
+
+-- a table has one list of answers, and what speaks for a matching is one thing
+pub record LawsBelow : Type 0 where
+  pub list : OneList
+  pub detail : OneMatchingDetail

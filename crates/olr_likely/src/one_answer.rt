@@ -1,0 +1,25 @@
+//! The law that what is asked is one thing, with no code: it is the contract of an empty function.
+
+ghost use Rattle.olr_likely.specs.OneAnswer.{LawsBelow, OneJson, OneText};
+
+use olr_detail::one_detail;
+use olr_keys::one_list;
+
+/// The laws that it rests on.
+fn laws_below()
+    ensures { LawsBelow }
+{
+    one_list();
+    one_detail();
+}
+
+/// Places as they are asked for ([`crate::places_asked`]) have one text and one JSON: those of a
+/// reference on a map, by its layers there, by the limits and the order, and whether in detail. It is
+/// a premise that looking at the matchings gives one value, as `one_looking` of `olr_places_laws`
+/// says.
+pub fn one_shown()
+    ensures text { OneText }
+    ensures json { OneJson }
+{
+    laws_below();
+}
