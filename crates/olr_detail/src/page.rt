@@ -7,7 +7,6 @@ ghost use Rattle.olr_text.specs.Sent.{Sends};
 ghost use Rattle.olr_text.specs.Texts.{unnumbered};
 ghost use Rattle.olr_keys.specs.Page.{page_of};
 ghost use Rattle.olr_detail.specs.Json.{detailed_object};
-ghost use Rattle.olr_report.specs.Text.{next_after};
 ghost use Rattle.olr_detail.specs.Page.{AreDetailed, CanBeShownInDetail, IsDetailedEntry, IsPageJson, IsPageText, detailed_of};
 ghost use Rattle.olr_detail.specs.Text.{detailed_rows};
 
@@ -19,7 +18,9 @@ use olr_base::NoMemory;
 use olr_candidates::ReferenceOnMap;
 use olr_keys::{Cursor, Key, Mark, Page};
 use olr_matching::Matched;
-use olr_report::{Entry, OnMap, entry_of, next_cursor, push_end, push_location, push_pieces};
+use olr_report::{
+    Entry, OnMap, entry_of, next_after, next_cursor, push_end, push_location, push_pieces,
+};
 use olr_text::{ToJson, ToText, push_texts, send_object, to_json_line};
 use serde::Serializer;
 use std::alloc::Global;
@@ -119,13 +120,6 @@ fn detailed_entries<'a>(
         all.push(one)?;
     }
     Ok(all)
-}
-
-/// The key after which the next page begins: the last one of the page, where more remain.
-fn next_after(page: &Page) -> Option<&Key>
-    ensures { option_map (λ key. key.now) result ≡ next_after (page_of page.now) }
-{
-    if page.more { page.keys.last() } else { None }
 }
 
 /// The JSON of a page as [`olr_report::json_page`] makes it, with what speaks for each matching: its

@@ -10,7 +10,7 @@ use Rattle.olr_road.specs.RoadMap.{RoadMap}
 use Rattle.olr_matching.specs.Layers.{LayersValue}
 use Rattle.olr_places.specs.Looking.{IsLooked, Looked, openers_of}
 use Rattle.olr_places.specs.Places.{ArePlacesOf, entry_of}
-use Rattle.olr_places.specs.Text.{next_after}
+use Rattle.olr_places.specs.Looking.{next_after}
 use Rattle.olr_places.specs.declared.limits.PlaceLimits.{PlaceLimits}
 use Rattle.olr_places.specs.declared.opener.Opener.{Opener}
 use Rattle.olr_places.specs.declared.places.Places.{Places}

@@ -7,7 +7,7 @@ pub mod Found
 pub mod Nested
 pub mod Written
 pub mod Joined
-pub mod Plain
+pub mod ByTotal
 pub mod Values
 pub mod OneOrder
 pub mod OneAnswer

@@ -15,7 +15,7 @@ use Rattle.olr_report.specs.Entries.{IsEntryAt, Entry, keys_of}
 use Rattle.olr_places.proofs.Opening.{first_opens}
 use Rattle.olr_places.specs.Looking.{IsLooked, openers_of, Looked}
 use Rattle.olr_places.specs.Places.{entry_of}
-use Rattle.olr_places.specs.Text.{next_after}
+use Rattle.olr_places.specs.Looking.{next_after}
 use Rattle.olr_places.specs.declared.ending.Ending.{Ending}
 use Rattle.olr_places.specs.declared.ending.Ending.TheVariants.{Beyond, Cut, NoMore}
 use Rattle.olr_places.specs.declared.limits.PlaceLimits.{PlaceLimits}

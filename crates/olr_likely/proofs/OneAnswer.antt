@@ -17,7 +17,7 @@ use Rattle.olr_report.specs.Entries.{Entry}
 use Rattle.olr_places.specs.Limits.{IsInRange}
 use Rattle.olr_places.specs.Looking.{IsLooked, Looked, gap_of}
 use Rattle.olr_places.specs.Places.{AreCounted, ArePlacesOf, entry_of}
-use Rattle.olr_places.specs.Text.{next_of}
+use Rattle.olr_places.specs.Looking.{next_of}
 use Rattle.olr_places.specs.declared.limits.PlaceLimit.TheVariants.{Apart, Look, Most, Within}
 use Rattle.olr_places.specs.declared.limits.PlaceLimits.{PlaceLimits}
 use Rattle.olr_places.specs.declared.opener.Opener.{Opener}
@@ -33,7 +33,7 @@ use Rattle.olr_likely.specs.declared.ranked.RankedPlace.{RankedPlace}
 use Rattle.olr_likely.specs.declared.showing.ShownPlace.{ShownPlace}
 use Rattle.olr_likely.specs.declared.showing.ShownPlaces.{ShownPlaces}
 use Rattle.olr_likely.proofs.OneOrder.{one_count, one_cut, one_listed, one_margin, shown_once}
-use Rattle.olr_likely.proofs.Plain.{next_is, verdict_is}
+use Rattle.olr_likely.proofs.ByTotal.{next_is, verdict_is}
 use Rattle.olr_likely.proofs.Values.{AreAlike, OpenerValue, RankedValue, ShownValue, opener_value, ranked_value, same_json, same_made, same_parts, same_text, shown_value}
 
 -- ---- openers

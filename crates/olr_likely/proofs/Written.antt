@@ -8,7 +8,7 @@ use Rattle.olr_text.specs.JsonValues.{array_of, or_null, whole, whole_or_null}
 use Rattle.olr_keys.specs.Cursor.{cursor_text}
 use Rattle.olr_keys.specs.Key.{KeyValue}
 use Rattle.olr_road.specs.RoadMap.{RoadMap}
-use Rattle.olr_places.specs.Text.{verdict_word}
+use Rattle.olr_places.specs.Verdict.{verdict_word}
 use Rattle.olr_report.proofs.ShownPage.{same_next}
 use Rattle.olr_likely.specs.Json.{place_object, shown_members, shown_object, shown_object_by}
 use Rattle.olr_likely.specs.declared.showing.ShownPlaces.{ShownPlaces}

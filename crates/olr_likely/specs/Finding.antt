@@ -5,7 +5,7 @@ use Rattle.olr_keys.specs.Key.{KeyValue}
 use Rattle.olr_road.specs.RoadMap.{RoadMap}
 use Rattle.olr_matching.specs.Layers.{LayersValue}
 use Rattle.olr_places.specs.Looking.{IsLooked, Looked}
-use Rattle.olr_places.specs.Text.{next_of}
+use Rattle.olr_places.specs.Looking.{next_of}
 use Rattle.olr_places.specs.declared.limits.PlaceLimits.{PlaceLimits}
 use Rattle.olr_likely.specs.Answer.{IsAnswerOf}
 use Rattle.olr_likely.specs.Ranked.{AreLookedAt}

@@ -9,7 +9,7 @@ use Rattle.olr_report.specs.Location.{located_value}
 use Rattle.olr_detail.specs.Json.{matching_object}
 use Rattle.olr_detail.specs.declared.matching_detail.MatchingDetail.{MatchingDetail}
 use Rattle.olr_places.specs.Places.{entry_of}
-use Rattle.olr_places.specs.Text.{verdict_word}
+use Rattle.olr_places.specs.Verdict.{verdict_word}
 use Rattle.olr_places.specs.declared.opener.Opener.{Opener}
 use Rattle.olr_likely.specs.declared.showing.RankAndCost.{RankAndCost}
 use Rattle.olr_likely.specs.declared.showing.ShownPlace.{ShownPlace}

@@ -6,6 +6,5 @@ pub mod Showing
 pub mod Json
 pub mod Text
 pub mod Asking
-pub mod Laws
 pub mod LikelyLaws
 pub mod OneAnswer

@@ -9,7 +9,7 @@ use Rattle.olr_matching.specs.Layers.{LayersValue}
 use Rattle.olr_detail.specs.MatchingDetail.{IsMatchingDetail}
 use Rattle.olr_detail.specs.declared.matching_detail.MatchingDetail.{MatchingDetail}
 use Rattle.olr_places.specs.Places.{IsOpenerAt, verdict_in}
-use Rattle.olr_places.specs.Text.{next_after}
+use Rattle.olr_places.specs.Looking.{next_after}
 use Rattle.olr_places.specs.declared.opener.Opener.{Opener}
 use Rattle.olr_places.specs.declared.places.Places.{Places}
 use Rattle.olr_likely.specs.declared.answer.LikelyPlaces.{LikelyPlaces}

@@ -11,8 +11,7 @@
 //! - [`asking`]: [`places_asked`], places as they are asked for.
 //! - [`json`], [`text`]: their JSON and their text.
 //!
-//! Beside them, [`laws`] says that in the order of totals, and not in detail, text and JSON are those
-//! of `olr_places`; [`likely_laws`], that the likeliest place is shown first, and what `cut` says;
+//! Beside them, [`likely_laws`] says that the likeliest place is shown first, and what `cut` means;
 //! [`one_answer`], that what is asked has one text and one JSON.
 #![tactic(auto)]
 
@@ -20,7 +19,6 @@ mod answer;
 mod asking;
 mod finding;
 mod json;
-mod laws;
 mod likely_laws;
 mod one_answer;
 mod order;
@@ -32,7 +30,6 @@ pub use answer::LikelyPlaces;
 pub use asking::{PlaceOrder, places_asked};
 pub use finding::likely_places;
 pub use json::shown_json;
-pub use laws::shown_as_places;
 pub use likely_laws::{likeliest_is_first, none_is_missing};
 pub use one_answer::one_shown;
 pub use ranked::RankedPlace;

@@ -7,7 +7,7 @@ ghost use Rattle.olr_matching.specs.Layers.{AreLayersOn, LayersValue};
 ghost use Rattle.olr_detail.specs.MatchingDetail.{CanBeDetailed};
 ghost use Rattle.olr_report.specs.Entries.{HasPieces};
 ghost use Rattle.olr_places.specs.Places.{IsOpenerAt};
-ghost use Rattle.olr_places.specs.Text.{next_after};
+ghost use Rattle.olr_places.specs.Looking.{next_after};
 ghost use Rattle.olr_likely.specs.Showing.{AreInDetail, AreShownByCost, AreShownByTotal, IsShownAt, IsInDetail, IsPlaceInDetail, shown_by_cost, shown_by_total};
 
 use crate::answer::LikelyPlaces;

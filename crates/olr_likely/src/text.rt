@@ -1,15 +1,15 @@
 //! The text of places as they are shown.
 
 ghost use Rattle.std.specs.Prelude.{◌≡◌, ◌++◌, IfOk, OnOk, string_bytes};
-ghost use Rattle.olr_places.specs.Text.{summary_rows};
-ghost use Rattle.olr_likely.specs.Text.{cost_text, detail_text, head_text, place_rows, rank_text, shown_text};
+ghost use Rattle.olr_likely.specs.Text.{cost_text, covered_rows, detail_text, head_text, place_rows, rank_text, shown_text, summary_rows};
+ghost use Rattle.olr_report.specs.Location.{located_value};
 
 use crate::showing::{RankAndCost, ShownPlace, ShownPlaces};
 use olr_base::NoMemory;
 use olr_detail::{MatchingDetail, push_detail, push_likely};
 use olr_keys::Cursor;
-use olr_places::{Opener, push_covered};
-use olr_report::{OnMap, push_end};
+use olr_places::Opener;
+use olr_report::{Located, OnMap, push_end, push_part, push_place};
 use olr_road::Map;
 use olr_text::{Decimal, NumberOr, ToText, push_texts};
 use std::alloc::Global;
@@ -68,6 +68,23 @@ fn push_points_and_legs(
 {
     if let Some(detail) = detail {
         push_detail(text, on, detail)?;
+    }
+    Ok(())
+}
+
+/// Adds the rows of the stretch of road that a matching covers.
+fn push_covered(text: &mut String, on: &OnMap<'_>, location: &Located) -> Result<(), NoMemory>
+    ensures { OnOk result (string_bytes text.new
+        ≡ string_bytes text.old ++ covered_rows on.now.map.now (located_value location.now)) }
+{
+    match location {
+        Located::Line { outer, .. } => {
+            push_part(text, on, "outer", outer)?;
+        }
+        Located::Point { earliest, latest } => {
+            push_place(text, on, "earliest", earliest)?;
+            push_place(text, on, "latest", latest)?;
+        }
     }
     Ok(())
 }

@@ -16,10 +16,9 @@ pub use Rattle.olr_matching.specs.Matched.{IsMatchedBy}
 pub use Rattle.olr_places.specs.Closeness.{Ground, IsClose, IsNear, ground_of, is_near, line, point}
 pub use Rattle.olr_places.specs.Looking.{IsLooked, Looked, belongs, gap_of, is_close_to, is_within, listed_of, looking, looking_on, openers_of, openers_on, place_of}
 pub use Rattle.olr_places.specs.Missing.{AreCovered, covers, has_step, longest_run, missing_of}
-pub use Rattle.olr_places.specs.Places.{AreCounted, ArePlacesOf, IsCounted, IsOpenerAt, entry_of, object_of, opener_object, opener_rows, verdict_in}
+pub use Rattle.olr_places.specs.Places.{AreCounted, ArePlacesOf, IsCounted, IsOpenerAt, entry_of, verdict_in}
 pub use Rattle.olr_places.specs.Steps.{HasEnded, LooksAt, Stands, gap_behind, gap_in, margin_in, one_more_at, places_in}
-pub use Rattle.olr_places.specs.Text.{all_place_rows, next_after, next_of, places_text, summary_rows, verdict_word}
-pub use Rattle.olr_places.specs.Verdict.{margin_of, verdict_of}
+pub use Rattle.olr_places.specs.Verdict.{margin_of, verdict_of, verdict_word}
 pub use Rattle.olr_places.specs.declared.ending.Ending.TheVariants.{Beyond, Cut, NoMore}
 pub use Rattle.olr_places.specs.declared.ending.Ending.{Ending}
 pub use Rattle.olr_places.specs.declared.limits.PlaceLimits.{PlaceLimits}

@@ -8,4 +8,3 @@ pub mod Gaps
 pub mod Opening
 mod LookSteps
 mod Progress
-mod Outputs

@@ -5,7 +5,5 @@ pub mod CoveredRoads
 pub mod Laws
 pub mod Looking
 pub mod Verdict
-pub mod Text
-pub mod Json
 pub mod Places
 pub mod Steps

@@ -1,9 +1,10 @@
 -- The places of a reference: which of its matchings are looked at, which of them open a place, and
 -- where looking ends. Totals and gaps are in penalty points.
 -- (Places, and where looking ends, are this project's choice.)
-use Rattle.std.specs.Prelude.{◌≡◌, ℕ, ◌-◌, Bool, ◌==◌, nat_le, nat_lt, if◌then◌else◌, List, [], ◌∷◌, ◌++◌, length, filter, All}
+use Rattle.std.specs.Prelude.{◌≡◌, ℕ, ◌-◌, Bool, ◌==◌, nat_le, nat_lt, if◌then◌else◌, List, [], ◌∷◌, ◌++◌, length, filter, All, Option, None}
 use Rattle.std.specs.List.{list_any, position_or_len}
 use Rattle.olr_keys.specs.Key.{KeyValue}
+use Rattle.olr_keys.specs.Page.{last_of}
 use Rattle.olr_road.specs.RoadMap.{RoadMap}
 use Rattle.olr_matching.specs.Layers.{LayersValue}
 use Rattle.olr_report.specs.Entries.{Entry, IsEntryAt, keys_of}
@@ -21,6 +22,15 @@ gap_of (first ∷ others) key = key.total - first.key.total
 pub record Looked : Type 0 where
   pub matchings : List Entry
   pub ending : Ending
+
+-- the key after which looking would go on: the last one that was looked at, where it was cut off
+abbrev pub next_after : Ending → Option KeyValue → Option KeyValue
+next_after NoMore last = None
+next_after (Beyond gap) last = None
+next_after Cut last = last
+
+abbrev pub next_of : Looked → Option KeyValue
+next_of looked = next_after looked.ending (last_of None (keys_of looked.matchings))
 
 -- ---- places
 

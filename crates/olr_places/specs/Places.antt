@@ -1,16 +1,11 @@
 -- What is kept of the matchings that were looked at.
-use Rattle.std.specs.Prelude.{◌≡◌, ℕ, ◌+◌, List, [], ◌∷◌, length, map, All, None, codes}
-use Rattle.serde_json.specs.Data.{Data, string, object, no_members, member}
-use Rattle.olr_text.specs.JsonValues.{array_of, whole, whole_or_null}
+use Rattle.std.specs.Prelude.{◌≡◌, ℕ, ◌+◌, List, [], ◌∷◌, length, map, All, None}
 use Rattle.olr_keys.specs.Page.{last_of}
 use Rattle.olr_road.specs.RoadMap.{RoadMap}
 use Rattle.olr_matching.specs.Layers.{LayersValue}
 use Rattle.olr_report.specs.Entries.{Entry, IsEntryAt, IsOnMap, keys_of}
-use Rattle.olr_report.specs.Json.{next_value}
 use Rattle.olr_report.specs.Location.{located_value}
-use Rattle.olr_places.specs.Json.{place_object}
 use Rattle.olr_places.specs.Looking.{Looked, gap_of, listed_of, members_of}
-use Rattle.olr_places.specs.Text.{next_after, place_rows, verdict_word}
 use Rattle.olr_places.specs.Verdict.{margin_of, verdict_by}
 use Rattle.olr_places.specs.declared.ending.Verdict.{Verdict}
 use Rattle.olr_places.specs.declared.limits.PlaceLimits.{PlaceLimits}
@@ -63,23 +58,3 @@ AreOnMap road places = All (λ (opener : Opener). IsOnMap road (entry_of opener)
 -- the verdict, by what is kept
 abbrev pub verdict_in : Places → Verdict
 verdict_in places = verdict_by places.looked (length places.openers.items) places.ending
-
--- ---- as they are shown
-
--- the rows of the place of this number, by its opener
-abbrev pub opener_rows : RoadMap → ℕ → Opener → List ℕ
-opener_rows road number opener =
-    place_rows road number opener.gap opener.members (entry_of opener)
-
--- the object of an opener
-abbrev pub opener_object : RoadMap → Opener → Data
-opener_object road opener = place_object road opener.gap opener.members (entry_of opener)
-
--- the object of places, with this verdict
-abbrev pub object_of : RoadMap → Places → Data
-object_of road places = object (
-    member (codes "looked") (whole places.looked) (
-    member (codes "margin") (whole_or_null places.margin) (
-    member (codes "next") (next_value (next_after places.ending places.last) None) (
-    member (codes "places") (array_of (opener_object road) places.openers.items) (
-    member (codes "verdict") (string (verdict_word (verdict_in places))) no_members)))))

@@ -1,5 +1,5 @@
 -- Whether a match is unique, by the matchings that were looked at. Gaps are in penalty points.
-use Rattle.std.specs.Prelude.{ℕ, List, length, ◌==◌, Option, option_map, slice_get, nat_le, if◌then◌else◌}
+use Rattle.std.specs.Prelude.{ℕ, List, length, ◌==◌, Option, codes, option_map, slice_get, nat_le, if◌then◌else◌}
 use Rattle.olr_report.specs.Entries.{Entry}
 use Rattle.olr_places.specs.Looking.{Looked, gap_of, listed_of, openers_of}
 use Rattle.olr_places.specs.declared.ending.Ending.{Ending}
@@ -31,3 +31,10 @@ verdict_by looked listed ending =
 abbrev pub verdict_of : PlaceLimits → Looked → Verdict
 verdict_of limits looked =
     verdict_by (length looked.matchings) (length (listed_of limits looked.matchings)) looked.ending
+
+-- the word of a verdict
+abbrev pub verdict_word : Verdict → List ℕ
+verdict_word verdict.None = codes "none"
+verdict_word verdict.Unique = codes "unique"
+verdict_word verdict.Ambiguous = codes "ambiguous"
+verdict_word verdict.Open = codes "open"

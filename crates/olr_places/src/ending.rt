@@ -1,7 +1,7 @@
 //! Why looking at matchings ended, and what that says about the match.
 
 ghost use Rattle.std.specs.Prelude.{◌≡◌};
-ghost use Rattle.olr_places.specs.Text.{verdict_word};
+ghost use Rattle.olr_places.specs.Verdict.{verdict_word};
 
 /// Why looking ended.
 #[derive(Clone, Copy, Debug, PartialEq, Eq)]

@@ -10,7 +10,6 @@
 //!   ends.
 //! - [`ending`]: why looking ended, and the verdict; [`places`]: what is found.
 //! - [`finding`]: [`places_of`], all of this from layers to places, key by key.
-//! - [`text`], [`json`]: their text and their JSON.
 //!
 //! Beside them, [`laws`] says that the test of closeness is right. The laws on places, verdicts and
 //! margins are those of `olr_places_laws`.
@@ -20,21 +19,17 @@ mod cover;
 mod covered_road;
 mod ending;
 mod finding;
-mod json;
 mod laws;
 mod limits;
 mod looking;
 mod missing;
 mod opener;
 mod places;
-mod text;
 
 pub use covered_road::CoveredRoad;
 pub use ending::{Ending, Verdict};
 pub use finding::places_of;
-pub use json::places_json;
 pub use laws::closeness_is_tested;
 pub use limits::{BadNumber, PlaceLimit, PlaceLimits};
 pub use opener::Opener;
 pub use places::Places;
-pub use text::{places_text, push_covered};

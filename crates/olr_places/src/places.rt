@@ -1,9 +1,8 @@
 //! The places of a reference, by the matchings that were looked at.
 
-ghost use Rattle.std.specs.Prelude.{◌≡◌, option_map};
+ghost use Rattle.std.specs.Prelude.{◌≡◌};
 ghost use Rattle.olr_places.specs.Looking.{Looked};
 ghost use Rattle.olr_places.specs.Places.{ArePlacesOf, verdict_in};
-ghost use Rattle.olr_places.specs.Text.{next_after};
 ghost use Rattle.olr_places.specs.Verdict.{verdict_of};
 ghost use Rattle.olr_places.specs.declared.limits.PlaceLimits.{PlaceLimits as Limits};
 
@@ -42,16 +41,6 @@ impl Places {
         match self.ending {
             Ending::NoMore | Ending::Beyond(_) => Verdict::Unique,
             Ending::Cut => Verdict::Open,
-        }
-    }
-
-    /// The key after which looking would go on, where it was cut off.
-    pub fn next(&self) -> Option<&Key>
-        ensures { option_map (λ key. key.now) result ≡ next_after self.now.ending self.now.last }
-    {
-        match self.ending {
-            Ending::NoMore | Ending::Beyond(_) => None,
-            Ending::Cut => self.last.as_ref(),
         }
     }
 }

@@ -50,6 +50,6 @@ pub use matching_json::{OnMap, ShownMatching};
 pub use page_entries::{Entry, entries, entry_of};
 pub use page_json::{json_page, next_cursor};
 pub use part_laws::inner_lies_within_outer;
-pub use text::text_page;
+pub use text::{next_after, text_page};
 pub use text_rows::{push_end, push_location, push_part, push_pieces, push_place, shown_id};
 pub use trimming::trim;

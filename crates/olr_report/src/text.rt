@@ -18,7 +18,7 @@ use olr_text::push_texts;
 use std::alloc::Global;
 
 /// The key after which the next page begins: the last one of the page, where more remain.
-pub(crate) fn next_after(page: &Page) -> Option<&Key>
+pub fn next_after(page: &Page) -> Option<&Key>
     ensures { option_map (λ key. key.now) result ≡ next_after (page_of page.now) }
 {
     if page.more { page.keys.last() } else { None }
