@@ -1,9 +1,10 @@
 -- The line of a record, from the answer to its text.
-use Rattle.olr_batch.proofs.Common.{◌≡◌, ℕ, Bool, false, List, ◌++◌, Option, None, Ok, Bor, codes, ap, ap₂, ◌∙◌, refl, subst, inl, inr, Data, compact_text, RoadMap, line_text, IsLineOfText, Records}
+use Rattle.olr_batch.proofs.Common.{◌≡◌, ℕ, Bool, true, false, List, ◌++◌, Option, None, Ok, Bor, codes, ap, ap₂, ◌∙◌, refl, subst, inl, inr, Data, compact_text, RoadMap, line_text, IsLineOfText, Records}
 use Rattle.std.specs.Prelude.{if◌then◌else◌}
 use Rattle.olr_binary.specs.Json.{reference_object}
 use Rattle.olr_candidates.specs.declared.tolerances.Tolerances.{Tolerances}
-use Rattle.olr_places.specs.Json.{places_object}
+use Rattle.olr_detail.specs.Json.{listing_object as detailed_listing, page_object as detailed_page}
+use Rattle.olr_likely.specs.Json.{shown_object}
 use Rattle.olr_report.specs.Json.{page_object}
 use Rattle.olr_report.specs.Text.{next_after}
 use Rattle.olr_why.specs.Json.{why_object}
@@ -36,24 +37,38 @@ module _ (road : RoadMap) (accepted : Accepted) (output : List ℕ) where
   abbrev Answers : Request → Type 0
   Answers request = IsAnswerOn false request accepted road (Ok output)
 
-  -- that of one page as JSON
+  -- a page as it is asked for, as JSON
+  abbrev page_asked :
+      ℕ → Bool → Tolerances → Bor (List ℕ) → Option (Bor (List ℕ)) → MatchRequest
+  page_asked size detail tolerances text after = record {
+    text = text;
+    tolerances = tolerances;
+    size = size;
+    pages = One after;
+    detail = detail;
+    format = Json;
+  }
+
+  -- that of a question, of which one page is asked for, as JSON
   of_question : (what : QuestionKind) (tolerances : Tolerances) (text : Bor (List ℕ))
       (after : Option (Bor (List ℕ)))
       → Answers (request_for what tolerances text (One after) Json) → IsLine output
-  of_question Candidates tolerances text after is =
+  of_question (Candidates false) tolerances text after is =
       (listing_object road is.lists, is.text_is.line_is)
-  of_question (Match size) tolerances text after is =
-      let asked : MatchRequest = record {
-        text = text;
-        tolerances = tolerances;
-        size = size;
-        pages = One after;
-        format = Json;
-      } in
+  of_question (Candidates true) tolerances text after is =
+      (detailed_listing road is.text_is.details, is.text_is.text_is.line_is)
+  of_question (Match size false) tolerances text after is =
+      let asked : MatchRequest = page_asked size false tolerances text after in
       let on = on_map false asked after accepted road output refl is in
       (page_object road on.is_text.entries (next_after on.page) on.mark, on.is_text.text_is.line_is)
-  of_question (Places limits) tolerances text after is =
-      (places_object road limits is.2.looked, is.2.output_is.line_is)
+  of_question (Match size true) tolerances text after is =
+      let asked : MatchRequest = page_asked size true tolerances text after in
+      let on = on_map false asked after accepted road output refl is in (
+        detailed_page road on.is_text.text_is.all (next_after on.page) on.mark,
+        on.is_text.text_is.text_is.line_is,
+      )
+  of_question (Places limits order detail) tolerances text after is =
+      (shown_object road is.2.shown, is.2.output_is.line_is)
   of_question (Why nearest) tolerances text after is =
       (why_object road is.why, is.output_is.line_is)
 

@@ -13,16 +13,24 @@ use Rattle.olr_request.specs.declared.request.Request.TheVariants as request
 
 -- the request, with these pages where it asks for matchings
 abbrev pub request_for : QuestionKind → Tolerances → Bor (List ℕ) → Pages → Format → Request
-request_for Candidates tolerances text pages format = request.Candidates text tolerances format
-request_for (Match size) tolerances text pages format = request.Match (record {
+request_for (Candidates detail) tolerances text pages format =
+    request.Candidates text tolerances detail format
+request_for (Match size detail) tolerances text pages format = request.Match (record {
   text = text;
   tolerances = tolerances;
   size = size;
   pages = pages;
+  detail = detail;
   format = format;
 })
-request_for (Places limits) tolerances text pages format = request.Places
-    (record { text = text; tolerances = tolerances; limits = limits; format = format })
+request_for (Places limits order detail) tolerances text pages format = request.Places (record {
+  text = text;
+  tolerances = tolerances;
+  limits = limits;
+  order = order;
+  detail = detail;
+  format = format;
+})
 request_for (Why nearest) tolerances text pages format = request.Why
     (record { text = text; tolerances = tolerances; nearest = nearest; format = format })
 

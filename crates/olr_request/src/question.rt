@@ -6,6 +6,7 @@ ghost use Rattle.olr_request.specs.Question.{request_for};
 use crate::request::{Format, MatchRequest, Pages, PlacesRequest, Request, WhyRequest};
 use olr_candidates::Tolerances;
 use olr_keys::PageSize;
+use olr_likely::PlaceOrder;
 use olr_places::PlaceLimits;
 use olr_why::NearestCount;
 
@@ -13,11 +14,26 @@ use olr_why::NearestCount;
 #[derive(Clone, Copy, Debug, PartialEq, Eq)]
 pub enum QuestionKind {
     /// The candidates of each of its points.
-    Candidates,
-    /// Its matchings, in pages of so many at most.
-    Match(PageSize),
-    /// Its places, told apart and looked for by these numbers, and whether its match is unique.
-    Places(PlaceLimits),
+    Candidates {
+        /// Whether with what speaks for each.
+        detail: bool,
+    },
+    /// Its matchings.
+    Match {
+        /// How many matchings a page has at most.
+        size: PageSize,
+        /// Whether with what speaks for each.
+        detail: bool,
+    },
+    /// Its places, and whether its match is unique.
+    Places {
+        /// How matchings are told apart, and how far they are looked at.
+        limits: PlaceLimits,
+        /// In which order they are shown.
+        order: PlaceOrder,
+        /// Whether with what speaks for each.
+        detail: bool,
+    },
     /// Why it has no matching and what would help, with so many of the lines nearest to each point
     /// at most.
     Why(NearestCount),
@@ -41,22 +57,30 @@ impl Question {
     {
         let tolerances = self.tolerances;
         match self.what {
-            QuestionKind::Candidates => Request::Candidates {
+            QuestionKind::Candidates { detail } => Request::Candidates {
                 text,
                 tolerances,
+                detail,
                 format,
             },
-            QuestionKind::Match(size) => Request::Match(MatchRequest {
+            QuestionKind::Match { size, detail } => Request::Match(MatchRequest {
                 text,
                 tolerances,
                 size,
                 pages,
+                detail,
                 format,
             }),
-            QuestionKind::Places(limits) => Request::Places(PlacesRequest {
+            QuestionKind::Places {
+                limits,
+                order,
+                detail,
+            } => Request::Places(PlacesRequest {
                 text,
                 tolerances,
                 limits,
+                order,
+                detail,
                 format,
             }),
             QuestionKind::Why(nearest) => Request::Why(WhyRequest {

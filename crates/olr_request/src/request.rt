@@ -5,6 +5,7 @@ ghost use Rattle.olr_request.specs.Request.{bytes_of, cursor_of, text_of};
 
 use olr_candidates::Tolerances;
 use olr_keys::PageSize;
+use olr_likely::PlaceOrder;
 use olr_places::PlaceLimits;
 use olr_why::NearestCount;
 
@@ -37,6 +38,8 @@ pub struct MatchRequest<'a> {
     pub size: PageSize,
     /// Which pages are printed.
     pub pages: Pages<'a>,
+    /// Whether a page says what speaks for each matching.
+    pub detail: bool,
     /// How a page is printed.
     pub format: Format,
 }
@@ -50,6 +53,10 @@ pub struct PlacesRequest<'a> {
     pub tolerances: Tolerances,
     /// How matchings are told apart, and how far they are looked at.
     pub limits: PlaceLimits,
+    /// In which order the places are printed.
+    pub order: PlaceOrder,
+    /// Whether what speaks for each place is printed.
+    pub detail: bool,
     /// How the places are printed.
     pub format: Format,
 }
@@ -83,6 +90,8 @@ pub enum Request<'a> {
         text: &'a str,
         /// How far a line may differ from what a point says.
         tolerances: Tolerances,
+        /// Whether what speaks for each candidate is printed.
+        detail: bool,
         /// How the candidates are printed.
         format: Format,
     },

@@ -51,7 +51,9 @@ module _ (words behind : List ℕ) (given : Given) (question : Question)
         tolerances = its.by.options_given.tolerances;
         page = its.by.options_given.page;
         numbers = its.by.options_given.numbers;
+        order = its.by.options_given.order;
         nearest = its.by.options_given.nearest;
+        detail = its.by.options_given.detail;
         after = its.by.options_given.after;
       };
       reference = refl;

@@ -2,14 +2,16 @@
 use mathlib.Core.Path.{fun_ext}
 use Rattle.std.proofs.Common.{◌≡◌, ◌∙◌, ap, sym, refl, ℕ, Bor, false, List, Option, Some, None, cond}
 use Rattle.std.specs.Prelude.{option_map, unwrap_or}
+use Rattle.std.specs.Bool.{one_answer}
 use Rattle.olr_request.specs.Request.{at_bytes, bytes_of}
 use Rattle.olr_request.specs.declared.request.Pages.TheVariants as pages
-use Rattle.olr_words.specs.Given.{IsNumberOf, IsProfileNamed}
+use Rattle.olr_likely.specs.declared.asking.PlaceOrder.{PlaceOrder}
+use Rattle.olr_likely.specs.declared.asking.PlaceOrder.TheVariants.{Likely, Total}
+use Rattle.olr_words.specs.Given.{IsNumberOf, IsOrderNamed, IsProfileNamed}
 use Rattle.olr_words.specs.OneRequest.{placeless_pages}
 use Rattle.olr_words.specs.Options.{RecordOption}
 use Rattle.olr_words.specs.Profile.{profile_value}
 use Rattle.olr_words.specs.Record.{AreGivenBy}
-use Rattle.olr_words.specs.RecordWords.{Parts}
 use Rattle.olr_words.specs.RecordWords.{Parts}
 use Rattle.olr_words.specs.Words.{pages_of, value_of}
 use Rattle.olr_words.specs.declared.profile.Profile.{Profile}
@@ -32,12 +34,21 @@ one_profile name Feed Program is other = absurd (other is)
 one_profile name Program Feed is other = absurd (is other)
 one_profile name Program Program is other = refl
 
+one_order : (name : Option (List ℕ)) (a b : PlaceOrder) → IsOrderNamed name a
+    → IsOrderNamed name b → a ≡ b
+one_order name Likely Likely is other = refl
+one_order name Likely Total is other = absurd (other is)
+one_order name Total Likely is other = absurd (is other)
+one_order name Total Total is other = refl
+
 -- the same values, texts and pages
 pub record Alike (g h : Given) : Type 0 where
   pub values : value_of g ≡ value_of h
   pub numbers : g.numbers ≡ h.numbers
   pub page : g.page ≡ h.page
+  pub order : g.order ≡ h.order
   pub nearest : g.nearest ≡ h.nearest
+  pub detail : g.detail ≡ h.detail
   pub pages : placeless_pages (pages_of g) ≡ placeless_pages (pages_of h)
   pub text : g.text.now ≡ h.text.now
   pub format : g.format ≡ h.format
@@ -74,7 +85,9 @@ alike options its g h by other =
           (one_number _ _ _ is.numbers.look too.numbers.look)
           (one_number _ _ _ is.numbers.most too.numbers.most);
       page = one_number _ _ _ is.page too.page;
+      order = one_order _ _ _ is.order too.order;
       nearest = one_number _ _ _ is.nearest too.nearest;
+      detail = one_answer _ _ is.detail too.detail;
       pages = one_page_of g by.one_page ∙ (ap (λ t. pages.One (option_map at_bytes t))
           (is.after ∙ sym too.after) ∙ sym (one_page_of h other.one_page));
       text = by.reference ∙ sym other.reference;

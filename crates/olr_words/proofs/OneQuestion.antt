@@ -16,7 +16,7 @@ use Rattle.olr_places.specs.declared.limits.PlaceLimits.{PlaceLimits}
 use Rattle.olr_request.specs.declared.fault.Fault.{Fault}
 use Rattle.olr_request.specs.declared.fault.Fault.TheVariants.{AfterWithAll, BadNearest, BadNumber, BadPage, BadTolerance}
 use Rattle.olr_request.specs.declared.question.QuestionKind.{QuestionKind}
-use Rattle.olr_request.specs.declared.question.QuestionKind.TheVariants.{Match, Places, Why}
+use Rattle.olr_request.specs.declared.question.QuestionKind.TheVariants.{Candidates, Match, Places, Why}
 use Rattle.olr_words.specs.Words.{AreLimits, AreTolerances, IsNearest, IsSize, IsRefusedRequest, IsRefusedWhat, IsWhat, number_of, size_of, value_of}
 use Rattle.olr_words.specs.declared.words.Given.{Given}
 use Rattle.olr_words.specs.declared.words.GivenNumbers.{GivenNumbers}
@@ -115,13 +115,16 @@ one_tolerances g h alike a b is other = same_tolerances a b
 
 pub one_what : (g h : Given) → Alike g h → (kind : MapSubcommand) (a b : QuestionKind)
     → IsWhat g kind a → IsWhat h kind b → a ≡ b
-one_what g h alike each.Candidates a b is other = is ∙ sym other
-one_what g h alike each.Match a b is other =
-    is.0 ∙ (ap (λ page. Match (unwrap_or page 10)) alike.page ∙ sym other.0)
-one_what g h alike each.Places a b is other = is.2 ∙ (ap (λ limits. Places limits)
-    (same_limits is.0 other.0 (λ number. limits_are g.numbers is.0 is.1 number
+one_what g h alike each.Candidates a b is other =
+    is ∙ (ap (λ detail. Candidates detail) alike.detail ∙ sym other)
+one_what g h alike each.Match a b is other = is.0
+    ∙ ((λ k. Match (unwrap_or (alike.page k) 10) (alike.detail k)) ∙ sym other.0)
+one_what g h alike each.Places a b is other =
+    let limits : is.0 ≡ other.0 = same_limits is.0 other.0 (λ number.
+    limits_are g.numbers is.0 is.1 number
     ∙ (ap (λ numbers. number_of numbers number) alike.numbers
-    ∙ sym (limits_are h.numbers other.0 other.1 number)))) ∙ sym other.2)
+    ∙ sym (limits_are h.numbers other.0 other.1 number))) in
+    is.2 ∙ ((λ k. Places (limits k) (alike.order k) (alike.detail k)) ∙ sym other.2)
 one_what g h alike each.Why a b is other =
     is.0 ∙ (ap (λ nearest. Why (unwrap_or nearest 8)) alike.nearest ∙ sym other.0)
 

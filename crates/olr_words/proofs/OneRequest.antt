@@ -85,9 +85,9 @@ not_show name kind show is =
 placeless_for : (what : QuestionKind) (tolerances : Tolerances) (text : Bor (List ℕ)) (pages : Pages)
     (format : Format) → placeless (request_for what tolerances text pages format)
     ≡ request_for what tolerances (at_bytes text.now) (placeless_pages pages) format
-placeless_for Candidates tolerances text pages format = refl
-placeless_for (Match size) tolerances text pages format = refl
-placeless_for (Places limits) tolerances text pages format = refl
+placeless_for (Candidates detail) tolerances text pages format = refl
+placeless_for (Match size detail) tolerances text pages format = refl
+placeless_for (Places limits order detail) tolerances text pages format = refl
 placeless_for (Why nearest) tolerances text pages format = refl
 
 one_request_for : (g h : Given) → Alike g h → (kind : MapSubcommand) (a b : Request)

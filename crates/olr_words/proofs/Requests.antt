@@ -66,7 +66,9 @@ given_alike text_of read given is same = subst (IsGiven text_of) (sym same) (rec
   tolerances = is.tolerances;
   page = is.page;
   numbers = is.numbers;
+  order = is.order;
   nearest = is.nearest;
+  detail = is.detail;
   after = is.after;
 })
 

@@ -5,7 +5,7 @@ use Rattle.std.specs.List.{list_all, list_any}
 use Rattle.clap.specs.Simple.{filled, filled_from, index_after, with_index, is_simple}
 use Rattle.clap.specs.Walk.{Rule, is_early_multiple, is_multiple}
 use Rattle.clap.specs.Faults.{is_simple_and_free}
-use Rattle.olr_words.specs.Options.{RecordOption}
+use Rattle.olr_words.specs.Options.{OptionValue, RecordOption, flag, option_named}
 use Rattle.olr_words.specs.RecordCommand.{app_with, record_app, record_rule, reference_rule}
 
 -- one that has one value at most, and no setting or rule beside
@@ -23,11 +23,19 @@ abbrev ArePlain : List Rule → Type 0
 ArePlain [] = ⊤
 ArePlain (r ∷ rs) = IsPlain r × ArePlain rs
 
-option_plain : (o : RecordOption) → IsPlain (record_rule o)
-option_plain o = record {
+-- an option of this name, whatever it takes
+plain_named : (name : List ℕ) (value : OptionValue) → IsPlain (record_rule (option_named name value))
+plain_named name flag = record {
   simple = refl;
   at = λ i. record { simple = refl; free = refl; single = refl };
 }
+plain_named name _ = record {
+  simple = refl;
+  at = λ i. record { simple = refl; free = refl; single = refl };
+}
+
+option_plain : (o : RecordOption) → IsPlain (record_rule o)
+option_plain o = plain_named o.name o.value
 
 options_plain : (os : List RecordOption) → ArePlain (map record_rule os)
 options_plain [] = tt

@@ -1,8 +1,10 @@
 -- What the words give to a subcommand, by the texts that they have for its options.
-use Rattle.std.specs.Prelude.{◌≡◌, ◌≢◌, ℕ, List, Option, None, Some, codes, get_or, option_map}
+use Rattle.std.specs.Prelude.{◌≡◌, ◌≢◌, ℕ, List, Option, None, Some, Bool, Decides, codes, get_or, option_map}
 use Rattle.std.specs.Str.Parse.{digits_value, without_leading_plus}
 use Rattle.olr_candidates.specs.Tolerances.{order_of, tolerance_name}
 use Rattle.olr_candidates.specs.declared.tolerances.Tolerance.{Tolerance}
+use Rattle.olr_likely.specs.declared.asking.PlaceOrder.{PlaceOrder}
+use Rattle.olr_likely.specs.declared.asking.PlaceOrder.TheVariants.{Likely, Total}
 use Rattle.olr_words.specs.Options.{IsWholeNumber}
 use Rattle.olr_words.specs.declared.profile.Profile.{Profile}
 use Rattle.olr_words.specs.declared.profile.Profile.TheVariants.{Feed, Program}
@@ -20,6 +22,15 @@ IsNumberOf (Some text) None = ¬ (IsWholeNumber text)
 abbrev pub IsProfileNamed : Option (List ℕ) → Profile → Type 0
 IsProfileNamed name Feed = name ≡ Some (codes "feed")
 IsProfileNamed name Program = name ≢ Some (codes "feed")
+
+-- the order of places of a name
+abbrev pub IsOrderNamed : Option (List ℕ) → PlaceOrder → Type 0
+IsOrderNamed name Likely = name ≡ Some (codes "likely")
+IsOrderNamed name Total = name ≢ Some (codes "likely")
+
+-- a flag is there: its text is `true`
+abbrev pub IsFlagOf : Option (List ℕ) → Bool → Type 0
+IsFlagOf text there = Decides there (text ≡ Some (codes "true"))
 
 module _ (text_of : List ℕ → Option (List ℕ)) where
   -- the numbers for places
@@ -40,5 +51,7 @@ module _ (text_of : List ℕ → Option (List ℕ)) where
     pub tolerances : AreTolerancesOf given.tolerances
     pub page : IsNumberOf (text_of (codes "page")) given.page
     pub numbers : AreNumbers given.numbers
+    pub order : IsOrderNamed (text_of (codes "order")) given.order
     pub nearest : IsNumberOf (text_of (codes "nearest")) given.nearest
+    pub detail : IsFlagOf (text_of (codes "detail")) given.detail
     pub after : option_map (λ cursor. cursor.now) given.after ≡ text_of (codes "after")

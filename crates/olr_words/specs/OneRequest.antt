@@ -17,7 +17,8 @@ placeless_pages (pages.One cursor) = pages.One (option_map (λ text. at_bytes te
 
 abbrev pub placeless : Request → Request
 placeless (Show text format) = Show (at_bytes text.now) format
-placeless (Candidates text tolerances format) = Candidates (at_bytes text.now) tolerances format
+placeless (Candidates text tolerances detail format) =
+    Candidates (at_bytes text.now) tolerances detail format
 placeless (Match asked) = Match (record asked {
   text = at_bytes asked.text.now;
   pages = placeless_pages asked.pages;

@@ -8,12 +8,13 @@ use Rattle.std.specs.Str.Parse.{IsNumeral, digits_value, without_leading_plus}
 -- ---- options
 
 -- what an option takes: a whole number; one of some words; the word `json`, since an answer to a
--- record is JSON; or the text of a cursor
+-- record is JSON; the text of a cursor; or nothing, as a flag
 pub data OptionValue : Type 0 where
   number : OptionValue
   one_of : List (List ℕ) → OptionValue
   json : OptionValue
   cursor : OptionValue
+  flag : OptionValue
 
 -- an option: its name, without dashes, and what it takes
 pub record RecordOption : Type 0 where
@@ -25,12 +26,14 @@ abbrev pub IsWholeNumber : List ℕ → Type 0
 IsWholeNumber text = IsNumeral 10 (without_leading_plus text)
     × (digits_value 10 (without_leading_plus text) < 2 ^ 32)
 
--- a text is such a value; a cursor is read later, with faults of its own
+-- a text is such a value; a cursor is read later, with faults of its own, and a flag has no value to
+-- test: whatever is found for it is right
 abbrev pub IsValue : OptionValue → List ℕ → Type 0
 IsValue number text = IsWholeNumber text
 IsValue (one_of words) text = Contains words text
 IsValue json text = text ≡ codes "json"
 IsValue cursor text = ⊤
+IsValue flag text = ⊤
 
 -- ---- subcommands
 
@@ -43,6 +46,9 @@ number_named name = option_named name number
 abbrev pub format_option : RecordOption
 format_option = option_named (codes "format") json
 
+abbrev pub detail_option : RecordOption
+detail_option = option_named (codes "detail") flag
+
 -- how a reference is matched
 abbrev pub tolerance_options : List RecordOption
 tolerance_options = option_named (codes "profile") (one_of (codes "program" ∷ codes "feed" ∷ []))
@@ -50,21 +56,22 @@ tolerance_options = option_named (codes "profile") (one_of (codes "program" ∷ 
     ∷ number_named (codes "class") ∷ number_named (codes "lowest")
     ∷ number_named (codes "percent") ∷ number_named (codes "slack") ∷ []
 
--- how places are told apart, and how far matchings are looked at
+-- how places are told apart, how far matchings are looked at, and in which order places are printed
 abbrev pub place_options : List RecordOption
 place_options = number_named (codes "apart") ∷ number_named (codes "within")
-    ∷ number_named (codes "look") ∷ number_named (codes "most") ∷ []
+    ∷ number_named (codes "look") ∷ number_named (codes "most")
+    ∷ option_named (codes "order") (one_of (codes "total" ∷ codes "likely" ∷ [])) ∷ []
 
 -- the subcommands that a record may name, each with its options in a record beside the reference
 abbrev pub subcommands : List (List ℕ × List RecordOption)
 subcommands = (codes "show", format_option ∷ [])
-    ∷ (codes "candidates", format_option ∷ tolerance_options)
+    ∷ (codes "candidates", detail_option ∷ format_option ∷ tolerance_options)
     ∷ (
       codes "match",
       number_named (codes "page")
-          ∷ option_named (codes "after") cursor ∷ format_option ∷ tolerance_options,
+          ∷ option_named (codes "after") cursor ∷ detail_option ∷ format_option ∷ tolerance_options,
     )
-    ∷ (codes "places", place_options ++ format_option ∷ tolerance_options)
+    ∷ (codes "places", place_options ++ detail_option ∷ format_option ∷ tolerance_options)
     ∷ (codes "why", number_named (codes "nearest") ∷ format_option ∷ tolerance_options) ∷ []
 
 -- the options in the first row of a name

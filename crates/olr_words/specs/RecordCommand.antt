@@ -1,10 +1,12 @@
 -- The command of `clap` for the words of a record, as `clap` states commands; and the options of
 -- the program that a record may have.
-use Rattle.std.specs.Prelude.{ℕ, List, [], ◌∷◌, ◌++◌, Option, Some, None, Bool, true, map, option_map, codes, if◌then◌else◌}
+use Rattle.std.specs.Prelude.{ℕ, List, [], ◌∷◌, ◌++◌, Option, Some, None, Bool, true, false, map, option_map, codes, if◌then◌else◌}
 use Rattle.std.specs.List.{filter_map, flat_map}
 use Rattle.clap.specs.Words.{App, Rule, new_app, new_rule}
 use Rattle.clap.specs.Walk.{texts}
-use Rattle.olr_words.specs.Options.{OptionValue, RecordOption, option_named, number, one_of, json, cursor}
+use Rattle.clap.specs.declared.builder.action.ArgAction.{ArgAction}
+use Rattle.clap.specs.declared.builder.action.ArgAction.TheVariants.{SetTrue}
+use Rattle.olr_words.specs.Options.{OptionValue, RecordOption, option_named, number, one_of, json, cursor, flag}
 use Rattle.olr_words.specs.declared.command.CommandOption.{CommandOption}
 use Rattle.olr_words.specs.declared.command.Subcommand.{Subcommand}
 use Rattle.olr_words.specs.declared.command.Takes.{Takes}
@@ -12,9 +14,17 @@ use Rattle.olr_words.specs.declared.command.Takes.TheVariants as takes
 
 -- ---- the command of `clap`
 
--- an option: a name with a word behind it
+-- a flag is set where it is there; for the others `clap` has a way of its own
+abbrev pub action_for : OptionValue → Option ArgAction
+action_for flag = Some SetTrue
+action_for value = None
+
+-- an option: a name, with a word behind it unless it is a flag
 abbrev pub record_rule : RecordOption → Rule
-record_rule option = record (new_rule option.name) { long = Some option.name }
+record_rule option = record (new_rule option.name) {
+  long = Some option.name;
+  action = action_for option.value;
+}
 
 -- the reference, a word without a name before it
 abbrev pub reference_rule : Rule
@@ -53,8 +63,14 @@ record_value takes.Cursor = Some cursor
 record_value (takes.MapFile name) = None
 record_value takes.File = None
 record_value takes.MapFolder = None
-record_value takes.Nothing = None
+record_value takes.Flag = Some flag
+record_value takes.AllPages = None
 record_value takes.Words = None
+
+-- a flag, which a record may have
+abbrev pub is_flag : Option OptionValue → Bool
+is_flag (Some flag) = true
+is_flag _ = false
 
 abbrev pub record_option : CommandOption → Option RecordOption
 record_option option =

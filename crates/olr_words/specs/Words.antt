@@ -100,10 +100,11 @@ IsNameOf each.Why name = name ≡ codes "why"
 
 -- what a subcommand asks of a reference, with what is given
 abbrev pub IsWhat : Given → MapSubcommand → QuestionKind → Type 0
-IsWhat given each.Candidates what = what ≡ Candidates
-IsWhat given each.Match what = (what ≡ Match (size_of given)) × IsSize (size_of given)
-IsWhat given each.Places what =
-    (limits : PlaceLimits) × AreLimits given.numbers limits × (what ≡ Places limits)
+IsWhat given each.Candidates what = what ≡ Candidates given.detail
+IsWhat given each.Match what =
+    (what ≡ Match (size_of given) given.detail) × IsSize (size_of given)
+IsWhat given each.Places what = (limits : PlaceLimits) × AreLimits given.numbers limits
+    × (what ≡ Places limits given.order given.detail)
 IsWhat given each.Why what = (what ≡ Why (nearest_of given)) × IsNearest (nearest_of given)
 
 -- why that is refused: the page size, the first number for places, or the number of lines

@@ -3,8 +3,9 @@
 ghost use Rattle.std.specs.Prelude.{◌≡◌, Decides, IfSome, is_some, map, option_map};
 ghost use Rattle.std.specs.List.{Any};
 ghost use Rattle.olr_words.specs.Options.{IsValue, options_named, options_of};
-ghost use Rattle.olr_words.specs.RecordCommand.{options_in, record_value, row_of};
+ghost use Rattle.olr_words.specs.RecordCommand.{is_flag, options_in, record_value, row_of};
 
+use crate::place_order::PLACE_ORDERS;
 use crate::profile::Profile;
 use clap::{Arg, ArgAction, ArgGroup, Command, Error};
 use std::alloc::Global;
@@ -36,8 +37,10 @@ enum Takes {
     Format,
     /// The text of a cursor.
     Cursor,
-    /// Nothing more.
-    Nothing,
+    /// Nothing more: it is there, or it isn't.
+    Flag,
+    /// Nothing more. It asks for all pages, which a record can't have.
+    AllPages,
     /// Any number of words, which have no name before them.
     Words,
 }
@@ -72,11 +75,19 @@ impl CommandOption {
     {
         matches!(
             self.takes,
-            Takes::Number | Takes::OneOf(_, _) | Takes::Format | Takes::Cursor
+            Takes::Number | Takes::OneOf(_, _) | Takes::Format | Takes::Cursor | Takes::Flag
         )
     }
 
-    /// Whether it takes a text in a record. The format of a record's answer is JSON.
+    /// Whether it is a flag: a record may have it, and no word stands behind it.
+    pub fn is_flag(&self) -> bool
+        ensures { result ≡ is_flag (record_value self.now.takes) }
+    {
+        matches!(self.takes, Takes::Flag)
+    }
+
+    /// Whether it takes a text in a record. The format of a record's answer is JSON. A flag has no text
+    /// of its own: it takes any that `clap` finds for it.
     pub fn takes_in_record(&self, text: &str) -> bool
         ensures { Decides result
             (IfSome (record_value self.now.takes) (λ value. IsValue value text.now)) }
@@ -195,6 +206,20 @@ const LIMITS: &[CommandOption] = &[
     },
 ];
 
+/// In which order places are printed.
+const ORDER: &[CommandOption] = &[CommandOption {
+    name: "order",
+    takes: Takes::OneOf("ORDER", PLACE_ORDERS),
+    help: "In which order places are printed: by total, or by likely cost, which says which one is probably right [default: total]",
+}];
+
+/// Whether more is printed of each candidate, matching or place.
+const DETAIL: &[CommandOption] = &[CommandOption {
+    name: "detail",
+    takes: Takes::Flag,
+    help: "Say what speaks for each: the parts of its penalty, and what they come from",
+}];
+
 /// The format of an output that is one object.
 const FORMAT: &[CommandOption] = &[CommandOption {
     name: "format",
@@ -209,7 +234,7 @@ const PAGE: &[CommandOption] = &[CommandOption {
     help: "How many matchings a page has: 1 to 1000 [default: 10]",
 }];
 
-/// Which pages are asked for, and in which format.
+/// Which pages are asked for.
 const PAGES: &[CommandOption] = &[
     CommandOption {
         name: "after",
@@ -218,15 +243,17 @@ const PAGES: &[CommandOption] = &[
     },
     CommandOption {
         name: "all",
-        takes: Takes::Nothing,
+        takes: Takes::AllPages,
         help: "Print all pages, one after the other",
     },
-    CommandOption {
-        name: "format",
-        takes: Takes::Format,
-        help: "Print each page as text, or as JSON: one object on a line [default: text]",
-    },
 ];
+
+/// The format of pages.
+const PAGE_FORMAT: &[CommandOption] = &[CommandOption {
+    name: "format",
+    takes: Takes::Format,
+    help: "Print each page as text, or as JSON: one object on a line [default: text]",
+}];
 
 /// How many lines near each point are printed.
 const NEAREST: &[CommandOption] = &[CommandOption {
@@ -280,17 +307,25 @@ const SUBCOMMANDS: &[Subcommand] = &[
     Subcommand {
         name: "candidates",
         about: "Print the lines of a map that may carry each point of an OpenLR reference, best first",
-        options: &[REFERENCE, FILES, FORMAT, TOLERANCES],
+        options: &[REFERENCE, FILES, DETAIL, FORMAT, TOLERANCES],
     },
     Subcommand {
         name: "match",
         about: "Print every place of a map where an OpenLR reference may lie, best first, page by page",
-        options: &[REFERENCE, FILES, PAGE, PAGES, TOLERANCES],
+        options: &[
+            REFERENCE,
+            FILES,
+            PAGE,
+            PAGES,
+            DETAIL,
+            PAGE_FORMAT,
+            TOLERANCES,
+        ],
     },
     Subcommand {
         name: "places",
         about: "Print the places of a map where an OpenLR reference may lie, and whether its match is unique",
-        options: &[REFERENCE, FILES, LIMITS, FORMAT, TOLERANCES],
+        options: &[REFERENCE, FILES, LIMITS, ORDER, DETAIL, FORMAT, TOLERANCES],
     },
     Subcommand {
         name: "why",
@@ -304,17 +339,17 @@ const BATCH_SUBCOMMANDS: &[Subcommand] = &[
     Subcommand {
         name: "candidates",
         about: "Print the lines that may carry each point of each reference",
-        options: &[FILES, RECORDS, TOLERANCES],
+        options: &[DETAIL, FILES, RECORDS, TOLERANCES],
     },
     Subcommand {
         name: "match",
         about: "Print the first page of matchings of each reference",
-        options: &[PAGE, FILES, RECORDS, TOLERANCES],
+        options: &[PAGE, DETAIL, FILES, RECORDS, TOLERANCES],
     },
     Subcommand {
         name: "places",
         about: "Print the places where each reference may lie, and whether its match is unique",
-        options: &[LIMITS, FILES, RECORDS, TOLERANCES],
+        options: &[LIMITS, ORDER, DETAIL, FILES, RECORDS, TOLERANCES],
     },
     Subcommand {
         name: "why",
@@ -360,7 +395,7 @@ fn argument<'a>(alloc: Global, option: &CommandOption) -> Result<Arg<'a>, Error>
                 .value_parser(FORMATS),
         ),
         Takes::Cursor => Ok(named(alloc, option).value_name("CURSOR")),
-        Takes::Nothing => Ok(named(alloc, option).action(ArgAction::SetTrue)),
+        Takes::Flag | Takes::AllPages => Ok(named(alloc, option).action(ArgAction::SetTrue)),
         Takes::Words => Ok(Arg::new(alloc, option.name).help(option.help).num_args(0..)),
     }
 }

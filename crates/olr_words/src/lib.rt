@@ -10,12 +10,14 @@
 //! - [`hints`]: what words that aren't understood are rejected with, where it can be said what to
 //!   write instead.
 //! - [`profile`]: the tolerances that stand for those which the words don't give.
+//! - [`place_order`]: the orders of places, by their names.
 //! - [`rejected`]: why nothing was written, the status for it, and the text that is printed.
 #![tactic(auto)]
 
 mod command;
 mod hints;
 mod last_question;
+mod place_order;
 mod profile;
 mod record;
 mod record_command;

@@ -7,15 +7,19 @@ ghost use Rattle.olr_words.specs.RecordCommand.{record_options, record_rule, ref
 ghost use Rattle.olr_words.specs.RecordCommand as specified;
 
 use crate::command::{CommandOption, Subcommand};
-use clap::{Arg, Command};
+use clap::{Arg, ArgAction, Command};
 use std::alloc::{AllocError, Global};
 
-/// The argument for an option of a record: a name, and a word.
+/// The argument for an option of a record: a name, and a word unless it is a flag.
 fn argument<'a>(alloc: Global, option: &CommandOption) -> Arg<'a>
     ensures rule { IfSome (record_option option.now) (λ o. rule_of result ≡ record_rule o) }
     ensures local { result.global ≡ false }
 {
-    Arg::new(alloc, option.name).long(option.name)
+    let argument = Arg::new(alloc, option.name).long(option.name);
+    if option.is_flag() {
+        return argument.action(ArgAction::SetTrue);
+    }
+    argument
 }
 
 /// The argument for the reference: a word without a name.

@@ -6,7 +6,7 @@ ghost use Rattle.olr_request.specs.declared.fault.Fault.TheVariants as fault;
 ghost use Rattle.olr_request.specs.declared.request.Format.TheVariants.{Json as JsonFormat};
 ghost use Rattle.olr_request.specs.declared.request.Request.TheVariants.{Show};
 ghost use Rattle.olr_words.specs.declared.words.MapSubcommand.{MapSubcommand as OfMap};
-ghost use Rattle.olr_words.specs.Given.{AreNumbers, AreTolerancesOf, IsGiven, IsNumberOf};
+ghost use Rattle.olr_words.specs.Given.{AreNumbers, AreTolerancesOf, IsFlagOf, IsGiven, IsNumberOf};
 ghost use Rattle.olr_words.specs.LastQuestion.{IsQuestionWithoutCursor};
 ghost use Rattle.olr_words.specs.Record.{IsOfSubcommand};
 ghost use Rattle.olr_words.specs.Words.{AreBoth, AreLimits, AreTolerances, IsNameOf, IsNearest};
@@ -16,6 +16,7 @@ ghost use Rattle.olr_words.specs.Words.{IsRequest, IsSize, IsWhat, nearest_of, p
 
 use crate::command::whole_command;
 use crate::hints::{check_values, not_understood, topic_in};
+use crate::place_order::place_order_named;
 use crate::profile::Profile;
 use crate::rejected::Rejected;
 use clap::error::ErrorKind;
@@ -23,6 +24,7 @@ use clap::{ArgMatches, Command};
 use olr_candidates::{Tolerance, Tolerances};
 use olr_explain::Topic;
 use olr_keys::PageSize;
+use olr_likely::PlaceOrder;
 use olr_places::PlaceLimits;
 use olr_request::{Fault, Format, Pages, Question, QuestionKind, Request};
 use olr_why::NearestCount;
@@ -114,6 +116,13 @@ fn number_in(found: &ArgMatches<'_>, name: &str) -> Option<u32>
     text.parse().ok()
 }
 
+/// Whether a flag is there. The text that `clap` finds for it is `true` if it is, else `false`.
+fn flag_in(found: &ArgMatches<'_>, name: &str) -> bool
+    ensures { IsFlagOf (first_value (found_of found.now) name.now) result }
+{
+    matches!(found.get_str(name), Some("true"))
+}
+
 /// The numbers that are found for the tolerances, in the order of [`Tolerance::ALL`].
 fn tolerances_in(found: &ArgMatches<'_>) -> [Option<u32>; Tolerance::COUNT]
     ensures { AreTolerancesOf (first_value (found_of found.now)) result }
@@ -172,8 +181,8 @@ impl GivenNumbers {
 
 /// What the words give to a subcommand, in range or not: the profile, the tolerances in the order of
 /// [`Tolerance::ALL`] and the units of [`Tolerance::least`], how many matchings a page has, the
-/// numbers for places, and how many lines near a point are printed. `None` where an option is left
-/// out, or where the subcommand has no such option.
+/// numbers for places and their order, how many lines near a point are printed, and whether with what
+/// speaks for each. `None` where a number is left out, or where the subcommand has no such option.
 #[derive(Clone, Copy)]
 pub(crate) struct Given<'a> {
     text: &'a str,
@@ -181,7 +190,9 @@ pub(crate) struct Given<'a> {
     tolerances: [Option<u32>; Tolerance::COUNT],
     page: Option<u32>,
     numbers: GivenNumbers,
+    order: PlaceOrder,
     nearest: Option<u32>,
+    detail: bool,
     after: Option<&'a str>,
     all: bool,
     format: Format,
@@ -199,9 +210,11 @@ impl<'a> Given<'a> {
             tolerances: tolerances_in(found),
             page: number_in(found, "page"),
             numbers: GivenNumbers::read(found),
+            order: place_order_named(found.get_str("order")),
             nearest: number_in(found, "nearest"),
+            detail: flag_in(found, "detail"),
             after: found.get_str("after"),
-            all: found.get_flag("all"),
+            all: flag_in(found, "all"),
             format: match found.get_str("format") {
                 Some("json") => Format::Json,
                 _ => Format::Text,
@@ -311,10 +324,18 @@ impl<'a> Given<'a> {
         ensures accepted { IfOk result (IsWhat self.now subcommand) }
         ensures refused { IfErr result (IsRefusedWhat self.now subcommand) }
     {
+        let detail = self.detail;
         match subcommand {
-            MapSubcommand::Candidates => Ok(QuestionKind::Candidates),
-            MapSubcommand::Match => Ok(QuestionKind::Match(self.size()?)),
-            MapSubcommand::Places => Ok(QuestionKind::Places(self.numbers.limits()?)),
+            MapSubcommand::Candidates => Ok(QuestionKind::Candidates { detail }),
+            MapSubcommand::Match => Ok(QuestionKind::Match {
+                size: self.size()?,
+                detail,
+            }),
+            MapSubcommand::Places => Ok(QuestionKind::Places {
+                limits: self.numbers.limits()?,
+                order: self.order,
+                detail,
+            }),
             MapSubcommand::Why => Ok(QuestionKind::Why(self.nearest_count()?)),
         }
     }
