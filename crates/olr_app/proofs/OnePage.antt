@@ -3,10 +3,10 @@ use Rattle.olr_app.proofs.Common.{AreAnswers, KeyValue, IsPageAfter, PageValue, 
 use Rattle.olr_matching.specs.Layers.{AreLayersOn}
 
 -- one page has one text
-page_text : {format : Format} {road : RoadMap} {layers : LayersValue} {mark : Option Mark}
+page_text : {detail : Bool} {format : Format} {road : RoadMap} {layers : LayersValue} {mark : Option Mark}
     (page : PageValue) (texts : List (List ℕ))
-    → AllZip (IsTextOfPage format road layers mark) (page ∷ []) texts
-    → IsTextOfPage format road layers mark page (concat texts)
+    → AllZip (IsTextOfPage detail format road layers mark) (page ∷ []) texts
+    → IsTextOfPage detail format road layers mark page (concat texts)
 page_text page [] each = absurd each
 page_text page (text ∷ []) each = rw (append-nil text) each.0
 page_text page (text ∷ other ∷ texts) each = absurd each.1
@@ -24,7 +24,7 @@ pub record OnMap (marks : Bool) (asked : MatchRequest) (accepted : Accepted) (ro
   pub is_page : IsPageAfter keys (key_of accepted.start) asked.size page
   pub mark : Option Mark
   pub is_mark : IsMarkOf marks asked.text.now asked.tolerances road (page ∷ []) mark
-  pub is_text : IsTextOfPage asked.format road layers mark page output
+  pub is_text : IsTextOfPage asked.detail asked.format road layers mark page output
 
 pub on_map : (marks : Bool) (asked : MatchRequest) (begins : Option (Bor (List ℕ)))
     (accepted : Accepted) (road : RoadMap) (output : List ℕ) → asked.pages ≡ One begins
@@ -51,7 +51,7 @@ on_map marks asked begins accepted road output one is =
           printed.is_mark;
       is_text = rw printed.texts.whole
           (page_text pages.0 printed.texts.texts (subst (λ l.
-          AllZip (IsTextOfPage asked.format road is.2.0 printed.mark) l printed.texts.texts)
+          AllZip (IsTextOfPage asked.detail asked.format road is.2.0 printed.mark) l printed.texts.texts)
           pages.1
           printed.texts.each));
     }

@@ -1,13 +1,15 @@
 -- The parts, the keys and the texts of pages, page by page; and why a page isn't there.
 use Rattle.std.proofs.Math.Seq.{take-suc}
 use Rattle.std.proofs.lemmas.List.Folds.{concat-append}
-use Rattle.olr_app.proofs.Common.{RoadMap, AreEntriesAt, Entry, IsMatchedBy, Matched, AreAnswers, IsPosition, KeyValue, IsKey, PageValue, IsPageAfter, IsRestAfter, Penalties, CursorRead, Mark, Page, LayersValue, key_of, ArePages, ArePagesAsked, values_of, AreTextsOfPages, IsTextOfPage, AndThen, IsStageFault, Fault, Format, MatchRequest, Pages, One, ◌≡◌, ℕ, List, [], ◌∷◌, Option, None, Some, Ok, Err, All, Contains, refl, inl, inr, ◌++◌, map, take, ap, sym, subst, ◌+◌, ◌≤◌, ◌<◌, add-one, length, true, false, ◌∙◌, append-nil, take_all, All-nil, All-cons, All-head, All-tail, All-take, All-contains, All-map, AllZip, concat, Result, slice_index_or, AreEntriesOf, IsEntryAt, IsEntryOf, keys_of}
+use Rattle.olr_app.proofs.Common.{RoadMap, AreEntriesAt, Entry, IsMatchedBy, Matched, AreAnswers, IsPosition, KeyValue, IsKey, PageValue, IsPageAfter, IsRestAfter, Penalties, CursorRead, Mark, Page, LayersValue, key_of, ArePages, ArePagesAsked, values_of, AreTextsOfPages, IsDetailedPageOfParts, IsPageOfParts, IsTextOfPage, AndThen, IsStageFault, Fault, Format, MatchRequest, Bool, Pages, One, ◌≡◌, ℕ, List, [], ◌∷◌, Option, None, Some, Ok, Err, All, Contains, refl, inl, inr, ◌++◌, map, take, ap, sym, subst, ◌+◌, ◌≤◌, ◌<◌, add-one, length, true, false, ◌∙◌, append-nil, take_all, All-nil, All-cons, All-head, All-tail, All-take, All-contains, All-map, AllZip, concat, Result, slice_index_or, AreEntriesOf, IsEntryAt, IsEntryOf, keys_of}
+use Rattle.olr_detail.specs.MatchingDetail.{entries_of}
 use Rattle.olr_keys.specs.Headline.{joined}
 use Rattle.olr_keys.specs.Page.{page_of}
 use Rattle.olr_keys.specs.declared.pages.PageFault.{PageFault}
 use Rattle.olr_keys.specs.declared.pages.PageFault.TheVariants.{CursorNotHere, NoMemory}
 use Rattle.olr_road.proofs.Zips.{zip_push}
 use Rattle.olr_request.specs.Fault.{fault_of_page}
+use Rattle.olr_request.specs.declared.request.Format.TheVariants.{Json, Text}
 use Rattle.olr_request.specs.declared.request.Pages.TheVariants.{All as AllPages}
 use Rattle.olr_request.specs.declared.fault.Fault.TheVariants as fault
 
@@ -150,11 +152,52 @@ module _ (road : RoadMap) (layers : LayersValue) where
         (sym are.matched_are) zip)) are.each;
   }
 
+  -- the text of a page, from that of the parts of its matchings
+  pub plain_page : (format : Format) (matched : List Matched) {page : PageValue}
+      {mark : Option Mark} {text : List ℕ}
+      → AllZip (IsMatchedBy road layers) page.keys matched
+      → IsPageOfParts format road layers.reference page matched mark text
+      → IsTextOfPage false format road layers mark page text
+  plain_page Text matched zip is = record {
+    entries = is.entries;
+    are = entries_at zip is.are_entries;
+    text_is = is.text_is;
+  }
+  plain_page Json matched zip is = record {
+    entries = is.entries;
+    are = entries_at zip is.are_entries;
+    text_is = is.json;
+  }
+
+  pub detailed_page : (format : Format) (matched : List Matched) {page : PageValue}
+      {mark : Option Mark} {text : List ℕ}
+      → AllZip (IsMatchedBy road layers) page.keys matched
+      → IsDetailedPageOfParts format layers.tolerances layers.reference road page matched mark text
+      → IsTextOfPage true format road layers mark page text
+  detailed_page Text matched zip is = record {
+    entries = entries_of is.all;
+    are = entries_at zip is.are.entries;
+    text_is = record {
+      all = is.all;
+      are = record { entries_are = refl; each = is.are.each };
+      text_is = is.text_is;
+    };
+  }
+  detailed_page Json matched zip is = record {
+    entries = entries_of is.all;
+    are = entries_at zip is.are.entries;
+    text_is = record {
+      all = is.all;
+      are = record { entries_are = refl; each = is.are.each };
+      text_is = is.json;
+    };
+  }
+
 -- ---- the texts so far
 
-module _ (format : Format) (road : RoadMap) (layers : LayersValue) (mark : Option Mark) where
+module _ (detail : Bool) (format : Format) (road : RoadMap) (layers : LayersValue) (mark : Option Mark) where
   abbrev IsText : Page → List ℕ → Type 0
-  IsText page text = IsTextOfPage format road layers mark (page_of page) text
+  IsText page text = IsTextOfPage detail format road layers mark (page_of page) text
 
   abbrev pub ShowsPages : List Page → List ℕ → Type 0
   ShowsPages pages output =
@@ -163,7 +206,7 @@ module _ (format : Format) (road : RoadMap) (layers : LayersValue) (mark : Optio
   pub one_more : (pages : List Page) (index : ℕ) (page : Page) (output text longer : List ℕ)
       → index < length pages → page ≡ slice_index_or pages index page
       → ShowsPages (take index pages) output
-      → IsTextOfPage format road layers mark (page_of page) text → longer ≡ output ++ text
+      → IsTextOfPage detail format road layers mark (page_of page) text → longer ≡ output ++ text
       → ShowsPages (take (index + 1) pages) longer
   one_more pages index page output text longer inside is so_far shown grown =
       let next : take index pages ++ page ∷ [] ≡ take (index + 1) pages = simp add-one
@@ -178,10 +221,10 @@ module _ (format : Format) (road : RoadMap) (layers : LayersValue) (mark : Optio
 
   pub all_pages_shown : (pages : List Page) (index : ℕ) (output : List ℕ) → length pages ≤ index
       → ShowsPages (take index pages) output
-      → AreTextsOfPages format road layers mark (values_of pages) output
+      → AreTextsOfPages detail format road layers mark (values_of pages) output
   all_pages_shown pages index output past shows = record {
     texts = shows.0;
-    each = zip_values (IsTextOfPage format road layers mark) page_of pages shows.0
+    each = zip_values (IsTextOfPage detail format road layers mark) page_of pages shows.0
         (subst (λ l. AllZip IsText l shows.0) (take_all index pages past) shows.1);
     whole = shows.2;
   }

@@ -41,11 +41,11 @@ IsShown format reference = NoFault (IsReferenceIn format reference)
 -- the same on each map.
 abbrev pub IsAnswerOn : Bool → Request → Accepted → RoadMap → Result (List ℕ) Fault → Type 0
 IsAnswerOn marks (Show text format) accepted road answer = IsShown format accepted.reference answer
-IsAnswerOn marks (Candidates text tolerances format) accepted road answer =
-    IsListed format tolerances accepted.reference road answer
+IsAnswerOn marks (Candidates text tolerances detail format) accepted road answer =
+    IsListed detail format tolerances accepted.reference road answer
 IsAnswerOn marks (Match asked) accepted road answer = AreMatchings marks asked accepted road answer
 IsAnswerOn marks (Places asked) accepted road answer =
-    ArePlaces asked.format asked.tolerances asked.limits accepted.reference road answer
+    ArePlaces asked accepted.reference road answer
 IsAnswerOn marks (Why asked) accepted road answer =
     AreReasons asked.format asked.tolerances asked.nearest accepted.reference road answer
 

@@ -4,6 +4,7 @@ pub mod Unbanned
 pub mod Stages
 pub mod Accepting
 pub mod Listing
+pub mod Page
 pub mod Matching
 pub mod Places
 pub mod Why

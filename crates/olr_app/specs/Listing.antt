@@ -1,6 +1,7 @@
 -- The candidates of a reference's points. As text: for each point a row with their number, and then
--- a row for each of them. As JSON: an object with an array of the candidates of each point.
-use Rattle.std.specs.Prelude.{◌≡◌, ℕ, List, ◌++◌, length, codes, decimal}
+-- a row for each of them. As JSON: an object with an array of the candidates of each point. In
+-- detail with what speaks for each.
+use Rattle.std.specs.Prelude.{◌≡◌, ℕ, Bool, true, false, List, ◌++◌, length, codes, decimal}
 use Rattle.std.specs.Prelude.{Result}
 use Rattle.serde_json.specs.Data.{Data, member, no_members, object}
 use Rattle.olr_app.specs.Common.{IsJsonLine, Reference, Tolerances, RoadMap}
@@ -10,6 +11,10 @@ use Rattle.olr_candidates.specs.Points.{AreLists}
 use Rattle.olr_candidates.specs.declared.candidate.Candidate.{Candidate}
 use Rattle.olr_report.specs.Common.{id_at}
 use Rattle.olr_report.specs.Json.{candidate_object}
+use Rattle.olr_detail.specs.Json.{listing_object as detailed_object}
+use Rattle.olr_detail.specs.Listing.{AreListsInDetail}
+use Rattle.olr_detail.specs.Text.{listing_text as detailed_text}
+use Rattle.olr_detail.specs.declared.candidate_detail.CandidateDetail.{CandidateDetail}
 use Rattle.olr_app.specs.Stages.{OrTooMany}
 use Rattle.olr_request.specs.declared.fault.Fault.{Fault}
 use Rattle.olr_request.specs.declared.request.Format.{Format}
@@ -49,14 +54,36 @@ abbrev pub IsListingIn : Format → RoadMap → List (List Candidate) → List �
 IsListingIn Text road lists text = text ≡ texts_from (point_listing road) 1 lists
 IsListingIn Json road lists text = IsJsonLine (listing_object road lists) text
 
+-- the same, where what speaks for each candidate is shown with it
+abbrev pub IsDetailedListingIn : Format → RoadMap → List (List CandidateDetail) → List ℕ → Type 0
+IsDetailedListingIn Text road details text = text ≡ detailed_text road details
+IsDetailedListingIn Json road details text = IsJsonLine (detailed_object road details) text
+
+-- ---- in detail or not
+
+-- the text of these candidates in detail: with what speaks for each of them
+pub record IsListingInDetail (format : Format) (tolerances : Tolerances) (reference : Reference)
+    (road : RoadMap) (lists : List (List Candidate)) (text : List ℕ) : Type 0 where
+  pub details : List (List CandidateDetail)
+  pub are : AreListsInDetail tolerances reference road.lines lists details
+  pub text_is : IsDetailedListingIn format road details text
+
+-- the text of these candidates, in detail or not
+abbrev pub IsListingAsAsked : Bool → Format → Tolerances → Reference → RoadMap
+    → List (List Candidate) → List ℕ → Type 0
+IsListingAsAsked false format tolerances reference road = IsListingIn format road
+IsListingAsAsked true format tolerances reference road =
+    IsListingInDetail format tolerances reference road
+
 -- the text of the candidates of a reference's points in a format
-pub record IsListing (format : Format) (tolerances : Tolerances) (reference : Reference)
-    (road : RoadMap) (text : List ℕ) : Type 0 where
+pub record IsListing (detail : Bool) (format : Format) (tolerances : Tolerances)
+    (reference : Reference) (road : RoadMap) (text : List ℕ) : Type 0 where
   pub lists : List (List Candidate)
   pub candidates : AreLists tolerances reference road.lines lists
-  pub text_is : IsListingIn format road lists text
+  pub text_is : IsListingAsAsked detail format tolerances reference road lists text
 
 -- the same as a stage: that text, or the fault of the first point that has more than 64 candidates
-abbrev pub IsListed : Format → Tolerances → Reference → RoadMap → Result (List ℕ) Fault → Type 0
-IsListed format tolerances reference road =
-    OrTooMany tolerances reference road (IsListing format tolerances reference road)
+abbrev pub IsListed : Bool → Format → Tolerances → Reference → RoadMap → Result (List ℕ) Fault
+    → Type 0
+IsListed detail format tolerances reference road =
+    OrTooMany tolerances reference road (IsListing detail format tolerances reference road)

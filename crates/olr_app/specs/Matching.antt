@@ -3,20 +3,17 @@
 use Rattle.std.specs.Prelude.{◌≡◌, ℕ, Bool, true, false, List, [], ◌∷◌, map, Option, None, Some, IfSome}
 use Rattle.std.specs.Prelude.{Contains, option_map, Result, Ok, Err}
 use Rattle.std.specs.List.{AllZip, concat}
-use Rattle.olr_app.specs.Common.{IsJsonLine, Reference, Tolerances, IsFingerprint, AreAnswers, KeyValue, CursorRead, Mark, RoadMap, LayersValue, AreLayersOn}
+use Rattle.olr_app.specs.Common.{Reference, Tolerances, IsFingerprint, AreAnswers, KeyValue, CursorRead, Mark, RoadMap, LayersValue, AreLayersOn}
 use Rattle.olr_keys.specs.Headline.{AreAllPages}
 use Rattle.olr_keys.specs.Matching.{IsKey}
 use Rattle.olr_keys.specs.Page.{PageValue, IsPageAfter, page_of}
 use Rattle.olr_keys.specs.declared.pages.Page.{Page}
-use Rattle.olr_report.specs.Entries.{AreEntriesAt, Entry}
-use Rattle.olr_report.specs.Json.{page_object}
-use Rattle.olr_report.specs.Text.{next_after, page_text}
+use Rattle.olr_app.specs.Page.{IsTextOfPage}
 use Rattle.olr_app.specs.Stages.{AndThen, NoFault, OrTooMany}
 use Rattle.olr_app.specs.declared.accepting.Accepted.{Accepted}
 use Rattle.olr_request.specs.declared.fault.Fault.{Fault}
 use Rattle.olr_request.specs.declared.fault.Fault.TheVariants.{CursorNotHere, CursorOfOther}
 use Rattle.olr_request.specs.declared.request.Format.{Format}
-use Rattle.olr_request.specs.declared.request.Format.TheVariants.{Json, Text}
 use Rattle.olr_request.specs.declared.request.MatchRequest.{MatchRequest}
 use Rattle.olr_request.specs.declared.request.Pages.{Pages}
 use Rattle.olr_request.specs.declared.request.Pages.TheVariants.{All, One}
@@ -69,24 +66,12 @@ ArePages asked layers start (Err fault) = (fault ≡ CursorNotHere)
 abbrev pub values_of : List Page → List PageValue
 values_of pages = map page_of pages
 
--- the text of a page in a format, by its entries and where the next page begins
-abbrev pub IsPageIn :
-    Format → RoadMap → List Entry → Option KeyValue → Option Mark → List ℕ → Type 0
-IsPageIn Text road entries next mark text = text ≡ page_text road entries next mark
-IsPageIn Json road entries next mark text = IsJsonLine (page_object road entries next mark) text
-
--- the text of a page: the matchings of its keys, and the mark in the cursor at its end, or no mark
-pub record IsTextOfPage (format : Format) (road : RoadMap) (layers : LayersValue)
-    (mark : Option Mark) (page : PageValue) (text : List ℕ) : Type 0 where
-  pub entries : List Entry
-  pub are : AreEntriesAt road layers page.keys entries
-  pub text_is : IsPageIn format road entries (next_after page) mark text
-
 -- the texts of pages one after the other
-pub record AreTextsOfPages (format : Format) (road : RoadMap) (layers : LayersValue)
-    (mark : Option Mark) (pages : List PageValue) (output : List ℕ) : Type 0 where
+pub record AreTextsOfPages (detail : Bool) (format : Format) (road : RoadMap)
+    (layers : LayersValue) (mark : Option Mark) (pages : List PageValue) (output : List ℕ)
+    : Type 0 where
   pub texts : List (List ℕ)
-  pub each : AllZip (IsTextOfPage format road layers mark) pages texts
+  pub each : AllZip (IsTextOfPage detail format road layers mark) pages texts
   pub whole : output ≡ concat texts
 
 -- The mark in the cursors at the ends of these pages. With marks it is the fingerprint of the
@@ -99,16 +84,16 @@ IsMarkOf true text tolerances road pages mark = (its : Mark) × (mark ≡ Some i
 IsMarkOf false text tolerances road pages mark = mark ≡ None
 
 -- the output: the texts of the pages, with such a mark
-pub record IsPagesText (format : Format) (road : RoadMap) (layers : LayersValue)
+pub record IsPagesText (detail : Bool) (format : Format) (road : RoadMap) (layers : LayersValue)
     (IsMark : Option Mark → Type 0) (pages : List PageValue) (output : List ℕ) : Type 0 where
   pub mark : Option Mark
   pub is_mark : IsMark mark
-  pub texts : AreTextsOfPages format road layers mark pages output
+  pub texts : AreTextsOfPages detail format road layers mark pages output
 
 -- the same as a stage, which has no fault
 abbrev pub IsPrinted :
     Bool → MatchRequest → RoadMap → LayersValue → List PageValue → Result (List ℕ) Fault → Type 0
-IsPrinted marks asked road layers pages = NoFault (IsPagesText asked.format road layers
+IsPrinted marks asked road layers pages = NoFault (IsPagesText asked.detail asked.format road layers
     (IsMarkOf marks asked.text.now asked.tolerances road pages) pages)
 
 -- ---- all stages after the map, with marks or without

@@ -8,9 +8,9 @@
 //!   and only then writes it.
 //! - [`on_map`]: the output on a map, and [`MapForRequests`], a map that answers one request after the
 //!   other.
-//! - [`listing`]: the text of candidates, by [`listing_json`] where it is JSON; [`matching`]: the
-//!   pages of matchings; [`places`]: the places, and whether the match is unique; [`why`]: why
-//!   there is no matching.
+//! - [`listing`]: the text of candidates, by [`listing_json`] where it is JSON and not in detail;
+//!   [`matching`]: the pages of matchings, and [`page`], the text of one; [`places`]: the places, and
+//!   whether the match is unique; [`why`]: why there is no matching.
 //! - [`sink`]: where the output goes, and [`writing`], the loops that hand it over.
 #![tactic(auto)]
 
@@ -20,6 +20,7 @@ mod listing;
 mod listing_json;
 mod matching;
 mod on_map;
+mod page;
 mod places;
 mod sink;
 mod why;
@@ -27,6 +28,7 @@ mod writing;
 
 pub use answering::run;
 pub use olr_candidates::{Tolerance, Tolerances};
+pub use olr_likely::PlaceOrder;
 pub use olr_map::{File, In, Source};
 pub use olr_matching::PageSize;
 pub use olr_places::{PlaceLimit, PlaceLimits};

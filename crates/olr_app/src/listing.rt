@@ -1,16 +1,17 @@
-//! The text of the candidates of a reference's points, in either format.
+//! The text of the candidates of a reference's points, in either format, in detail or not.
 
 ghost use Rattle.std.specs.Prelude.{◌≡◌, IfErr, IfOk, Ok, string_bytes};
-ghost use Rattle.olr_candidates.specs.Points.{lists_of};
+ghost use Rattle.olr_candidates.specs.Points.{AreLists, lists_of};
 ghost use Rattle.olr_text.specs.Texts.{texts_from};
-ghost use Rattle.olr_app.specs.Listing.{IsListed, IsListingIn, candidate_row, point_listing};
+ghost use Rattle.olr_detail.specs.Listing.{details_of};
+ghost use Rattle.olr_app.specs.Listing.{IsDetailedListingIn, IsListed, IsListingIn, IsListingInDetail, candidate_row, point_listing};
 ghost use Rattle.olr_app.specs.Stages.{IsStageFault};
 
 use crate::listing_json::json_of_lists;
 use arrayvec::ArrayVec;
 use olr_base::NoMemory;
-use olr_binary::Reference;
-use olr_candidates::{Candidate, MAX_CANDIDATES, Tolerances, candidates_of_points};
+use olr_candidates::{Candidate, MAX_CANDIDATES, ReferenceOnMap, candidates_of_points};
+use olr_detail::{PointDetails, listing_details, listing_json, listing_text};
 use olr_report::shown_id;
 use olr_request::{Fault, Format};
 use olr_road::{Map, Place};
@@ -79,7 +80,40 @@ fn printed_lists(
     }
 }
 
-/// The text of the candidates of each point of a reference, in a format.
+/// What speaks for the candidates of each point, in a format.
+fn printed_details(
+    alloc: Global,
+    map: &Map,
+    details: &[PointDetails],
+    format: Format,
+) -> Result<String, NoMemory>
+    ensures { IfOk result (λ text.
+        IsDetailedListingIn format map.now (details_of details.now) (string_bytes text)) }
+{
+    match format {
+        Format::Text => listing_text(alloc, map, details),
+        Format::Json => listing_json(alloc, map, details),
+    }
+}
+
+/// The candidates of each point with what speaks for each, in a format.
+fn detailed_lists(
+    alloc: Global,
+    on: &ReferenceOnMap<'_>,
+    lists: &[ArrayVec<Candidate, MAX_CANDIDATES>],
+    format: Format,
+) -> Result<String, NoMemory>
+    requires { AreLists on.now.tolerances on.now.reference.now on.now.map.now.lines
+        (lists_of lists.now) }
+    ensures { IfOk result (λ text. IsListingInDetail format on.now.tolerances
+        on.now.reference.now on.now.map.now (lists_of lists.now) (string_bytes text)) }
+{
+    let details = listing_details(alloc, on, lists)?;
+    let text = printed_details(alloc, on.map, &details, format)?;
+    Ok(text)
+}
+
+/// The text of the candidates of each point of a reference, in a format, in detail or not.
 ///
 /// # Errors
 ///
@@ -87,17 +121,20 @@ fn printed_lists(
 /// where the allocator refused memory.
 pub(crate) fn listing_of(
     alloc: Global,
-    map: &Map,
-    reference: &Reference,
-    tolerances: &Tolerances,
+    on: &ReferenceOnMap<'_>,
+    detail: bool,
     format: Format,
 ) -> Result<String, Fault>
-    ensures text { IfOk result (λ text.
-        IsListed format tolerances.now reference.now map.now (Ok (string_bytes text))) }
+    ensures text { IfOk result (λ text. IsListed detail format on.now.tolerances
+        on.now.reference.now on.now.map.now (Ok (string_bytes text))) }
     ensures fault { IfErr result (IsStageFault
-        (IsListed format tolerances.now reference.now map.now)) }
+        (IsListed detail format on.now.tolerances on.now.reference.now on.now.map.now)) }
 {
-    let lists = candidates_of_points(alloc, map, reference, tolerances)?;
-    let text = printed_lists(alloc, map, &lists, format)?;
+    let lists = candidates_of_points(alloc, on.map, on.reference, &on.tolerances)?;
+    if detail {
+        let text = detailed_lists(alloc, on, &lists, format)?;
+        return Ok(text);
+    }
+    let text = printed_lists(alloc, on.map, &lists, format)?;
     Ok(text)
 }

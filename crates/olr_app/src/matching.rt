@@ -1,32 +1,29 @@
-//! The text of the matchings of a reference on a map.
+//! The pages of matchings of a reference on a map.
 
 ghost use Rattle.std.specs.Prelude.{◌≡◌, All, Contains, Decides, IfErr, IfOk, IfSome, Ok};
 ghost use Rattle.std.specs.Prelude.{false};
-ghost use Rattle.std.specs.List.{AllZip};
-ghost use Rattle.std.specs.Prelude.{length, option_map, string_bytes, true};
+ghost use Rattle.std.specs.Prelude.{option_map, string_bytes, true};
 ghost use Rattle.olr_binary.specs.Reference.{IsReference};
 ghost use Rattle.olr_fingerprint.specs.Fingerprint.{IsFingerprint};
 ghost use Rattle.olr_keys.specs.Matching.{IsKey};
-ghost use Rattle.olr_keys.specs.Page.{PageValue, page_of};
-ghost use Rattle.olr_matching.specs.Matched.{IsMatchedBy};
+ghost use Rattle.olr_keys.specs.Page.{PageValue};
 ghost use Rattle.olr_matching.specs.Searches.{AreSearchesOn};
-ghost use Rattle.olr_report.specs.Entries.{CanBeShown};
 ghost use Rattle.olr_app.specs.Matching.{AreLayers, AreMatchings, ArePages, AreTextsOfPages};
-ghost use Rattle.olr_app.specs.Matching.{IsMarkOf, IsStartHere, IsTextOfPage, key_of, values_of};
+ghost use Rattle.olr_app.specs.Matching.{IsMarkOf, IsStartHere, key_of, values_of};
 ghost use Rattle.olr_app.specs.Stages.{IsStageFault};
 
 use crate::accepting::Accepted;
+use crate::page::text_of_page;
 use olr_base::NoMemory;
 use olr_binary::Reference;
 use olr_candidates::{ReferenceOnMap, Tolerances};
 use olr_fingerprint::fingerprint;
 use olr_matching::{
-    CursorRead, Key, Layers, Mark, Matched, Page, Routes, Searches, TotalsFinder, all_pages,
-    matchings_are_sound, page, same_inputs,
+    CursorRead, Key, Layers, Mark, Page, Routes, Searches, TotalsFinder, all_pages, page,
+    same_inputs,
 };
-use olr_report::{json_page, sound_parts_can_be_shown, text_page};
-use olr_request::{Fault, Format, MatchRequest, Pages};
-use olr_road::{Map, sound};
+use olr_request::{Fault, MatchRequest, Pages};
+use olr_road::Map;
 use std::alloc::Global;
 
 /// Tests that a cursor is of the inputs of a request: the map, the text of the reference and the
@@ -177,75 +174,21 @@ fn mark_of(
     Ok(Some(mark))
 }
 
-/// The parts of the matchings of a page.
-fn matched_on_page(
-    alloc: Global,
-    routes: &mut Routes<'_>,
-    page: &Page,
-) -> Result<Vec<Matched>, NoMemory>
-    requires { All (IsKey routes.old.layers.penalties) page.now.keys.items }
-    ensures each { IfOk result (λ matched.
-        AllZip (IsMatchedBy routes.old.road routes.old.layers) page.now.keys.items
-        matched.items) }
-    ensures one_each { IfOk result (λ matched.
-        length matched.items ≡ length page.now.keys.items) }
-    ensures shown { IfOk result (λ matched.
-        All (CanBeShown routes.old.road routes.old.layers.reference) matched.items) }
-    ensures same { routes.new ≡ routes.old }
-{
-    matchings_are_sound();
-    sound_parts_can_be_shown();
-    sound(routes.map());
-    // Called for its clause: the layers are those of a reference on this map.
-    let _layers = routes.layers();
-    let matched = routes.matched(alloc, &page.keys)?;
-    Ok(matched)
-}
-
-/// The text of a page in a format, with a mark in the cursor at its end or without one.
-fn text_of_page(
-    alloc: Global,
-    routes: &mut Routes<'_>,
-    page: &Page,
-    mark: Option<&Mark>,
-    format: Format,
-) -> Result<String, NoMemory>
-    requires { All (IsKey routes.old.layers.penalties) page.now.keys.items }
-    ensures text { let mark = option_map (λ mark. mark.now) mark.entry in IfOk result (λ text.
-        IsTextOfPage format routes.old.road routes.old.layers mark (page_of page.now)
-        (string_bytes text)) }
-    ensures same { routes.new ≡ routes.old }
-{
-    let matched = matched_on_page(alloc, routes, page)?;
-    let map = routes.map();
-    let reference = routes.layers().reference();
-    match format {
-        Format::Text => {
-            let text = text_page(alloc, map, reference, page, &matched, mark)?;
-            Ok(text)
-        }
-        Format::Json => {
-            let text = json_page(alloc, map, reference, page, &matched, mark)?;
-            Ok(text)
-        }
-    }
-}
-
-/// The texts of pages, one after the other.
+/// The texts of pages as they are asked for, one after the other.
 fn text_of_pages(
     alloc: Global,
     routes: &mut Routes<'_>,
     pages: &[Page],
     mark: &Option<Mark>,
-    format: Format,
+    asked: &MatchRequest<'_>,
 ) -> Result<String, NoMemory>
     requires { All (λ page. All (IsKey routes.old.layers.penalties) page.keys.items) pages.now }
-    ensures { IfOk result (λ output. AreTextsOfPages format routes.old.road routes.old.layers
-        mark.now (values_of pages.now) (string_bytes output)) }
+    ensures { IfOk result (λ output. AreTextsOfPages asked.now.detail asked.now.format
+        routes.old.road routes.old.layers mark.now (values_of pages.now) (string_bytes output)) }
 {
     let mut output = String::new(alloc);
     for page in pages {
-        let text = text_of_page(alloc, routes, page, mark.as_ref(), format)?;
+        let text = text_of_page(alloc, routes, page, mark.as_ref(), asked)?;
         output.push_str(&text)?;
     }
     Ok(output)
@@ -279,6 +222,6 @@ pub(crate) fn matchings_of(
     let pages = pages_asked(alloc, &layers, asked, start)?;
     let mark = mark_of(alloc, map, marks, asked, known, &pages)?;
     let mut routes = Routes::with_searches(alloc, map, &layers, searches);
-    let output = text_of_pages(alloc, &mut routes, &pages, &mark, asked.format)?;
+    let output = text_of_pages(alloc, &mut routes, &pages, &mark, asked)?;
     Ok(output)
 }

@@ -14,6 +14,7 @@ use crate::places::places_listing;
 use crate::why::reasons_of;
 use olr_base::NoMemory;
 use olr_binary::{Reference, show_json, show_text};
+use olr_candidates::ReferenceOnMap;
 use olr_request::{Fault, Format, Request};
 use olr_road::Map;
 use olr_why::unbanned_of;
@@ -128,8 +129,16 @@ impl<'a> MapForRequests<'a> {
             Request::Candidates {
                 text: _,
                 tolerances,
+                detail,
                 format,
-            } => listing_of(alloc, map, reference, tolerances, *format),
+            } => {
+                let on = ReferenceOnMap {
+                    map,
+                    reference,
+                    tolerances: *tolerances,
+                };
+                listing_of(alloc, &on, *detail, *format)
+            }
             Request::Match(asked) => matchings_of(alloc, map, marks, asked, accepted),
             Request::Places(asked) => places_listing(alloc, map, asked, reference),
             Request::Why(asked) => {

@@ -2,16 +2,13 @@
 
 ghost use Rattle.std.specs.Prelude.{IfErr, IfOk, Ok, string_bytes};
 ghost use Rattle.olr_binary.specs.Reference.{IsReference};
-ghost use Rattle.olr_places.specs.Looking.{Looked};
-ghost use Rattle.olr_places.specs.Places.{ArePlacesOf};
-ghost use Rattle.olr_places.specs.declared.limits.PlaceLimits.{PlaceLimits as Limits};
 ghost use Rattle.olr_app.specs.Places.{ArePlaces, IsPlacesIn};
 ghost use Rattle.olr_app.specs.Stages.{IsStageFault};
 
 use crate::matching::layers_of;
 use olr_base::NoMemory;
 use olr_binary::Reference;
-use olr_places::{Places, places_json, places_of, places_text};
+use olr_likely::{ShownPlaces, places_asked, shown_json, shown_text};
 use olr_request::{Fault, Format, PlacesRequest};
 use olr_road::Map;
 use std::alloc::Global;
@@ -20,16 +17,14 @@ use std::alloc::Global;
 fn printed_places(
     alloc: Global,
     map: &Map,
-    places: Places,
+    shown: &ShownPlaces,
     format: Format,
 ) -> Result<String, NoMemory>
-    ensures { IfOk result (λ text. (limits : Limits) (looked : Looked)
-        → ArePlacesOf limits looked places
-        → IsPlacesIn format map.now limits looked (string_bytes text)) }
+    ensures { IfOk result (λ text. IsPlacesIn format map.now shown.now (string_bytes text)) }
 {
     match format {
-        Format::Text => places_text(alloc, map, &places),
-        Format::Json => places_json(alloc, map, places),
+        Format::Text => shown_text(alloc, map, shown),
+        Format::Json => shown_json(alloc, map, shown),
     }
 }
 
@@ -47,13 +42,13 @@ pub(crate) fn places_listing(
     reference: &Reference,
 ) -> Result<String, Fault>
     requires { IsReference reference.now }
-    ensures places { IfOk result (λ output. ArePlaces asked.now.format asked.now.tolerances
-        asked.now.limits reference.now map.now (Ok (string_bytes output))) }
-    ensures fault { IfErr result (IsStageFault (ArePlaces asked.now.format asked.now.tolerances
-        asked.now.limits reference.now map.now)) }
+    ensures places { IfOk result (λ output.
+        ArePlaces asked.now reference.now map.now (Ok (string_bytes output))) }
+    ensures fault { IfErr result (IsStageFault (ArePlaces asked.now reference.now map.now)) }
 {
     let (layers, searches) = layers_of(alloc, map, reference, &asked.tolerances)?;
-    let places = places_of(alloc, map, &layers, searches, &asked.limits)?;
-    let output = printed_places(alloc, map, places, asked.format)?;
+    let (order, detail) = (asked.order, asked.detail);
+    let shown = places_asked(alloc, map, &layers, searches, &asked.limits, order, detail)?;
+    let output = printed_places(alloc, map, &shown, asked.format)?;
     Ok(output)
 }

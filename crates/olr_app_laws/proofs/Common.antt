@@ -10,12 +10,13 @@ pub use Rattle.olr_app.proofs.OnePage.{on_map}
 pub use Rattle.olr_app.proofs.Single.{IsSingle, first_then, no_fault_once, no_ok_and_err, same_err, same_ok}
 pub use Rattle.olr_app.specs.Accepting.{IsStart, Accepts, OneOutcome}
 pub use Rattle.olr_app.specs.Answer.{IsOutput, IsAnswerOf, IsAnswerOn, IsMapOfFiles, IsAnswer}
-pub use Rattle.olr_app.specs.Matching.{IsPageIn, AreLayers, IsOfInputs, IsTextOfPage, key_of, AreMatchings, ArePagesAsked, ArePages, IsPrinted, IsStartHere, OnLayers, OnStart}
+pub use Rattle.olr_app.specs.Matching.{AreLayers, IsOfInputs, key_of, AreMatchings, ArePagesAsked, ArePages, IsPrinted, IsStartHere, OnLayers, OnStart}
+pub use Rattle.olr_app.specs.Page.{IsDetailedPageIn, IsPageAsAsked, IsPageIn, IsTextOfPage}
 pub use Rattle.olr_app.specs.Stages.{AndThen}
 pub use Rattle.olr_app.specs.declared.accepting.Accepted.{Accepted}
 pub use Rattle.olr_app_laws.specs.AnswerLaws.{FaultIsOfRun, IsSameOutput, OneAnswerOfMany, OutputIsOfRun, ShowsSame}
 pub use Rattle.olr_app_laws.specs.Headline.{AllPages, AreSame, AreShown, EachHasCursor, FollowEachOther, GoOn, GoesOnHere, HasSize, Headline, Inputs, IsCursorHere, IsRunAt, Matchings, Names, NoneRefused, RefusedByName, Run, RunsEnd, SizesAgree, files_of, joined, joined_outputs, request_of}
-pub use Rattle.olr_app_laws.specs.HeadlineOutputs.{AreRows, IsLastRow, IsObject, IsRow, Part, Shows, last_row_of, next_of, parts_of}
+pub use Rattle.olr_app_laws.specs.HeadlineOutputs.{ArePartsOf, AreRows, IsLastRow, IsObject, IsRow, Part, Shows, detailed_parts_of, last_row_of, next_of, parts_of}
 pub use Rattle.olr_app_laws.specs.Laws.{Laws}
 pub use Rattle.olr_binary.specs.Outcome.{IsOutcome}
 pub use Rattle.olr_binary.specs.declared.reference.Reference.{Reference}

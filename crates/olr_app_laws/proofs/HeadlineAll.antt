@@ -1,8 +1,8 @@
 -- The output for all pages is that of runs of one page each that follow each other.
-use Rattle.olr_app_laws.proofs.Common.{IsOutcome, Reference, IsFingerprint, AreAnswers, cursor_text, IsInRange, KeyValue, IsPageAfter, PageValue, last_of, CursorRead, Mark, RoadMap, LayersValue, next_after, IsStart, IsOutput, AreLayers, IsOfInputs, IsTextOfPage, key_of, bytes_of, Format, One, Match, ◌≡◌, ℕ, ◌≤◌, List, [], ◌∷◌, ◌++◌, true, false, Option, None, Some, Ok, Bor, refl, sym, ap, ◌∙◌, subst, arith, AllZip, concat, All, Contains, IfSome, append-nil, All-cons, All-nil, Contains-append_left, Contains-append_right, Laws, IsMapOf, AllPages, FollowEachOther, HasSize, Inputs, IsRunAt, Run, files_of, joined_outputs, request_of, Shows, parts_of, at_bytes}
+use Rattle.olr_app_laws.proofs.Common.{IsOutcome, Reference, IsFingerprint, AreAnswers, cursor_text, IsInRange, KeyValue, IsPageAfter, PageValue, last_of, CursorRead, Mark, RoadMap, LayersValue, next_after, IsStart, IsOutput, AreLayers, IsOfInputs, IsTextOfPage, key_of, bytes_of, Format, One, Match, ◌≡◌, ℕ, ◌≤◌, List, [], ◌∷◌, ◌++◌, true, false, Option, None, Some, Ok, Bor, refl, sym, ap, ◌∙◌, subst, arith, AllZip, concat, All, Contains, IfSome, append-nil, All-cons, All-nil, Contains-append_left, Contains-append_right, Laws, IsMapOf, AllPages, FollowEachOther, HasSize, Inputs, IsRunAt, Run, files_of, joined_outputs, request_of, Shows, at_bytes}
 use Rattle.olr_keys.specs.Headline.{AreEnded, AreResumed}
 use Rattle.olr_request.specs.declared.request.Pages.TheVariants.{All as EveryPage}
-use Rattle.olr_app_laws.proofs.HeadlineOutputs.{next_cursor, page_shows}
+use Rattle.olr_app_laws.proofs.HeadlineOutputs.{ShowsPage, next_cursor, page_shows}
 use Rattle.olr_app_laws.proofs.HeadlineRests.{next_exists, next_in_range}
 
 -- a run before others
@@ -44,19 +44,20 @@ module _ (laws : Laws) (format : Format) (inputs : Inputs) (size : ℕ) (at_leas
       (is_start : IsStart (bytes_of begins) (Ok start))
       (of_inputs : IfSome start (IsOfInputs text.now inputs.tolerances road)) (page : PageValue)
       (is_page : IsPageAfter keys (key_of start) size page) (output : List ℕ)
-      (is_text : IsTextOfPage format road layers (Some mark) page output) where
+      (is_text : IsTextOfPage inputs.detail format road layers (Some mark) page output) where
     in_range : (key : KeyValue) → next_after page ≡ Some key → IsInRange key
     in_range = next_in_range _ _ _ _ is_page _ laws.in_range are_layers.0.table are_keys
 
-    shows : Shows format (parts_of format road is_text.entries)
+    shows : ShowsPage inputs.detail format road layers is_text.entries
         (next_cursor (next_after page) mark) output
-    shows = page_shows laws.json_reads format _ _ _ _ _ in_range is_text.text_is
+    shows = page_shows laws.json_reads inputs.detail format road layers is_text.entries
+        (next_after page) mark output in_range is_text.text_is
 
     run : Run format
     run = record {
       request = Match (request_of inputs text size (One begins) format);
       output = output;
-      shown = parts_of format road is_text.entries;
+      shown = shows.parts;
     }
 
     is_run : AreMarked (page ∷ []) → IsRunAt inputs (bytes_of begins) run
@@ -105,7 +106,8 @@ module _ (laws : Laws) (format : Format) (inputs : Inputs) (size : ℕ) (at_leas
     shows_next : (after : Option KeyValue) → next_after page ≡ after
         → Shows format run.shown (next_cursor after mark) run.output
     unfolding run
-    shows_next after same = rw (sym same) shows
+    shows_next after same =
+        subst (λ a. Shows format shows.parts (next_cursor a mark) output) same shows.shows
 
     last_run : AreMarked (page ∷ []) → page.more ≡ false → AreRuns (bytes_of begins) (output ++ [])
     unfolding run
@@ -140,7 +142,7 @@ module _ (laws : Laws) (format : Format) (inputs : Inputs) (size : ℕ) (at_leas
       → IsStart (bytes_of begins) (Ok start) → key_of start ≡ after
       → IfSome start (IsOfInputs text.now inputs.tolerances road) → (pages : List PageValue)
       (texts : List (List ℕ)) → AreResumed keys after size pages → AreEnded pages → AreMarked pages
-      → AllZip (IsTextOfPage format road layers (Some mark)) pages texts
+      → AllZip (IsTextOfPage inputs.detail format road layers (Some mark)) pages texts
       → AreRuns (bytes_of begins) (concat texts)
   runs_of begins start after is_start at of_inputs [] texts resumed ended marked each = absurd ended
   runs_of begins start after is_start at of_inputs (page ∷ pages) [] resumed ended marked each =
@@ -176,7 +178,8 @@ all_pages laws format inputs size request output asks is =
     all.0.reference all.1.0 all.2.0 all.2.1 stages.2.0 stages.2.1 stages.2.2.1.0 stages.2.2.1.1
     printed.is_mark.0 None None None refl refl tt stages.2.2.0 printed.texts.texts pages.resumed
     pages.ended printed.is_mark.2 (subst (λ mark.
-    AllZip (IsTextOfPage format all.2.0 stages.2.0 mark) stages.2.2.0 printed.texts.texts)
+    AllZip (IsTextOfPage inputs.detail format all.2.0 stages.2.0 mark) stages.2.2.0
+    printed.texts.texts)
     printed.is_mark.1 printed.texts.each) in
     record {
       runs = runs.runs;

@@ -1,8 +1,9 @@
 -- Runs that follow each other show exactly the matchings after the cursor at which the first one
 -- begins; those have one text, and such runs come to an end.
-use Rattle.olr_app_laws.proofs.Common.{AreEntriesAt, RoadMap, IsSoundMap, OneCursor, IsInRange, KeyValue, IsRestAfter, IsFingerprint, LayersValue, next_after, Format, Text, ◌≡◌, ℕ, List, [], ◌∷◌, ◌++◌, Option, None, Some, sym, ap, ◌∙◌, subst, ◌≤◌, length, drop, refl, length-append, arith, append-nil, map-append, length-drop, All-append, Laws, IsCursorOf, one_rest, Entry, IsEntryAt, AreShown, FollowEachOther, Headline, Inputs, Matchings, Names, Run, joined, SizesAgree, GoOn, RunsEnd, Part, Shows, parts_of}
+use Rattle.olr_app_laws.proofs.Common.{AreEntriesAt, RoadMap, IsSoundMap, OneCursor, IsInRange, KeyValue, IsRestAfter, IsFingerprint, LayersValue, next_after, Format, Text, ◌≡◌, ℕ, List, [], ◌∷◌, ◌++◌, Option, None, Some, sym, ap, ◌∙◌, subst, ◌≤◌, length, drop, refl, length-append, arith, append-nil, map-append, length-drop, All-append, Laws, IsCursorOf, one_rest, Entry, IsEntryAt, AreShown, FollowEachOther, Headline, Inputs, Matchings, Names, Run, joined, SizesAgree, GoOn, RunsEnd, ArePartsOf, Bool, Part, Shows, detailed_parts_of, false, true}
 use Rattle.olr_app_laws.proofs.HeadlineOutputs.{key_next, next_cursor, none_next, one_shown}
-use Rattle.olr_app_laws.proofs.HeadlineOutputs.{page_shows, parts_append}
+use Rattle.olr_app_laws.proofs.HeadlineOutputs.{ShowsPage, page_shows, parts_append}
+use Rattle.olr_app_laws.proofs.OneAnswer.{detailed_once}
 use Rattle.olr_app_laws.proofs.HeadlineRests.{next_in_range, next_more, page_and_rest, page_is_rest}
 use Rattle.olr_app_laws.proofs.HeadlineRests.{left_after}
 use Rattle.olr_app_laws.proofs.HeadlineRuns.{Facts, PrintsPage, facts_of, matchings_of_run, run_prints}
@@ -22,15 +23,15 @@ entries_append {road} {layers} keys keys' entries entries' is is' = record {
   each = All-append (IsEntryAt road layers) entries entries' is.each is'.each;
 }
 
-shown_append : (format : Format) (road : RoadMap) (layers : LayersValue)
+shown_append : (detail : Bool) (format : Format) (road : RoadMap) (layers : LayersValue)
     (keys keys' : List KeyValue) (parts parts' : List (Part format))
-    → AreShown format road layers keys parts → AreShown format road layers keys' parts'
-    → AreShown format road layers (keys ++ keys') (parts ++ parts')
-shown_append format road layers keys keys' parts parts' is is' = record {
+    → AreShown detail format road layers keys parts → AreShown detail format road layers keys' parts'
+    → AreShown detail format road layers (keys ++ keys') (parts ++ parts')
+shown_append detail format road layers keys keys' parts parts' is is' = record {
   entries = is.entries ++ is'.entries;
   are = entries_append keys keys' is.entries is'.entries is.are is'.are;
-  parts_are = rw (is.parts_are, is'.parts_are)
-      (sym (parts_append format road is.entries is'.entries));
+  parts_are = parts_append detail format road layers is.entries is'.entries parts parts'
+      is.parts_are is'.parts_are;
 }
 
 -- ---- a cursor names one key
@@ -43,13 +44,13 @@ one_name law (Some cursor) a b is is' = is.1 ∙ ap Some (law _ _ _ _ _ is.2 is'
 -- ---- runs
 
 -- what shows exactly the matchings after a cursor
-record IsAfter (format : Format) (facts : Facts) (cursor : Option (List ℕ))
+record IsAfter (detail : Bool) (format : Format) (facts : Facts) (cursor : Option (List ℕ))
     (parts : List (Part format)) : Type 0 where
   named : Option KeyValue
   names : Names cursor named
   rest : List KeyValue
   is_rest : IsRestAfter facts.keys named rest
-  shown : AreShown format facts.road facts.layers rest parts
+  shown : AreShown detail format facts.road facts.layers rest parts
 
 module _ (laws : Laws) {format : Format} {inputs : Inputs} (all : Matchings inputs) where
   module _ {cursor : Option (List ℕ)} (run : Run format)
@@ -58,26 +59,30 @@ module _ (laws : Laws) {format : Format} {inputs : Inputs} (all : Matchings inpu
     in_range = next_in_range _ _ _ _ prints.is_page _ laws.in_range all.are_layers.table
         all.are_keys
 
-    shows_page : Shows format (parts_of format all.road prints.is_text.entries)
+    shows_page : ShowsPage inputs.detail format all.road all.layers prints.is_text.entries
         (next_cursor (next_after prints.page) prints.mark) run.output
-    shows_page = page_shows laws.json_reads format _ _ _ _ _ in_range prints.is_text.text_is
+    shows_page = page_shows laws.json_reads inputs.detail format all.road all.layers
+        prints.is_text.entries (next_after prints.page) prints.mark run.output in_range
+        prints.is_text.text_is
 
     module _ (next : Option (List ℕ)) (is : Shows format run.shown next run.output) where
-      same_parts : (run.shown ≡ parts_of format all.road prints.is_text.entries)
+      same_parts : (run.shown ≡ shows_page.parts)
           × (next ≡ next_cursor (next_after prints.page) prints.mark)
-      same_parts = one_shown format _ _ _ _ run.output is shows_page
+      same_parts = one_shown format _ _ _ _ run.output is shows_page.shows
 
       -- what the run shows is the keys of its page
-      page_shown : AreShown format all.road all.layers prints.page.keys run.shown
+      page_shown : AreShown inputs.detail format all.road all.layers prints.page.keys run.shown
       page_shown = record {
         entries = prints.is_text.entries;
         are = prints.is_text.are;
-        parts_are = same_parts.0;
+        parts_are = subst (λ p.
+            ArePartsOf inputs.detail format all.road all.layers prints.is_text.entries p)
+            (sym same_parts.0) shows_page.are;
       }
 
     -- a run whose output says that no more follow
     last_run : Shows format run.shown None run.output
-        → IsAfter format (facts_of all) cursor (run.shown ++ [])
+        → IsAfter inputs.detail format (facts_of all) cursor (run.shown ++ [])
     last_run is = record {
       named = prints.named;
       names = prints.names;
@@ -110,8 +115,8 @@ module _ (laws : Laws) {format : Format} {inputs : Inputs} (all : Matchings inpu
     -- a run after which others follow, at the cursor at the end of its output
     one_more : (following : List ℕ) (parts : List (Part format))
         → Shows format run.shown (Some following) run.output
-        → IsAfter format (facts_of all) (Some following) parts
-        → IsAfter format (facts_of all) cursor (run.shown ++ parts)
+        → IsAfter inputs.detail format (facts_of all) (Some following) parts
+        → IsAfter inputs.detail format (facts_of all) cursor (run.shown ++ parts)
     one_more following parts is later =
         let next = next_of_run following is in
         let names : Names (Some following) (Some next.0) =
@@ -125,11 +130,13 @@ module _ (laws : Laws) {format : Format} {inputs : Inputs} (all : Matchings inpu
           rest = prints.page.keys ++ later.rest;
           is_rest = page_and_rest _ _ _ _ prints.is_page next.0 later.rest all.are_keys.rise next.1
               rest;
-          shown = shown_append format _ _ _ _ _ _ (page_shown (Some following) is) later.shown;
+          shown = shown_append inputs.detail format _ _ _ _ _ _ (page_shown (Some following) is)
+              later.shown;
         }
 
   chain : (cursor : Option (List ℕ)) (runs : List (Run format))
-      → FollowEachOther inputs cursor runs → IsAfter format (facts_of all) cursor (joined runs)
+      → FollowEachOther inputs cursor runs
+      → IsAfter inputs.detail format (facts_of all) cursor (joined runs)
   chain cursor [] follow = absurd follow
   chain cursor (run ∷ []) follow = last_run run (run_prints laws all follow.0) follow.1
   chain cursor (run ∷ next ∷ runs) follow =
@@ -159,12 +166,21 @@ runs_join laws format inputs cursor runs follow =
 module _ (laws : Laws) where
   -- ---- keys have one text
 
-  text_once : (road : RoadMap) (sound : IsSoundMap road) (layers : LayersValue)
-      (keys : List KeyValue) (a b : List ℕ) → AreShown Text road layers keys a
-      → AreShown Text road layers keys b → a ≡ b
-  text_once road sound layers keys a b is is' = is.parts_are ∙ ap (parts_of Text road)
-      (laws.entries road layers sound keys is.entries is'.entries is.are is'.are)
-      ∙ sym is'.parts_are
+  parts_once : (detail : Bool) (road : RoadMap) (layers : LayersValue) (entries : List Entry)
+      (a b : List ℕ) → ArePartsOf detail Text road layers entries a
+      → ArePartsOf detail Text road layers entries b → a ≡ b
+  parts_once false road layers entries a b is is' = is ∙ sym is'
+  parts_once true road layers entries a b is is' = is.parts_are ∙ ap (detailed_parts_of Text road)
+      (detailed_once laws layers.tolerances layers.reference road is.all is'.all
+      (is.are.entries_are ∙ sym is'.are.entries_are) is.are.each is'.are.each) ∙ sym is'.parts_are
+
+  text_once : (detail : Bool) (road : RoadMap) (sound : IsSoundMap road) (layers : LayersValue)
+      (keys : List KeyValue) (a b : List ℕ) → AreShown detail Text road layers keys a
+      → AreShown detail Text road layers keys b → a ≡ b
+  text_once detail road sound layers keys a b is is' =
+      let entries = laws.entries road layers sound keys is.entries is'.entries is.are is'.are in
+      parts_once detail road layers is'.entries a b
+      (subst (λ list. ArePartsOf detail Text road layers list a) entries is.parts_are) is'.parts_are
 
   -- ---- the matchings after a cursor have one text
 
@@ -173,7 +189,7 @@ module _ (laws : Laws) where
       let all = matchings_of_runs _ _ _ _ follow in
       let is = chain laws all cursor runs follow in
       let is' = chain laws all cursor others follow' in
-      text_once all.road all.is_map.sound all.layers is.rest _ _ is.shown
+      text_once inputs.detail all.road all.is_map.sound all.layers is.rest _ _ is.shown
       (rw (sym (one_rest _ _ all.are_keys.rise
       (subst (λ o. IsRestAfter all.keys o is'.rest)
       (one_name laws.cursor cursor is'.named is.named is'.names is.names) is'.is_rest) is.is_rest))

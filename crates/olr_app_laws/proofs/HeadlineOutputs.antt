@@ -1,8 +1,12 @@
 -- What an output shows, in either format: a page shows its entries, and an output shows one thing.
-use Rattle.olr_app_laws.proofs.Common.{items_of, cursor_text, KeyValue, Mark, RoadMap, entries_rows, IsPageIn, Format, Json, Text, ◌≡◌, ℕ, List, [], ◌∷◌, ◌++◌, Option, None, Some, refl, append_assoc, arith, option_map, append_cancel_left, append_cancel_right, map-append, same_Some, Data, Items, array, Entry, entry_object, next_value, end_row, AreRows, IsLastRow, IsObject, Part, Shows, last_row_of, next_of, parts_of}
+use Rattle.olr_app_laws.proofs.Common.{items_of, cursor_text, KeyValue, LayersValue, Mark, RoadMap, entries_rows, IsDetailedPageIn, IsPageAsAsked, IsPageIn, Format, All-append, Bool, true, false, sym, ap, ◌+◌, ◌∙◌, Json, Text, ◌≡◌, ℕ, List, [], ◌∷◌, ◌++◌, Option, None, Some, refl, append_assoc, arith, option_map, append_cancel_left, append_cancel_right, map-append, same_Some, Data, Items, array, Entry, entry_object, next_value, end_row, AreRows, IsLastRow, IsObject, ArePartsOf, Part, Shows, detailed_parts_of, last_row_of, next_of, parts_of}
 use Rattle.olr_report.specs.JsonLaws.{JsonReadsAsPage}
 use Rattle.olr_app_laws.proofs.HeadlineTexts.{one_last_row}
-use Rattle.olr_app_laws.proofs.HeadlineTexts.{IsInRangeIfAny, end_is_row, entries_are_rows}
+use Rattle.olr_app_laws.proofs.HeadlineTexts.{IsInRangeIfAny, detailed_are_rows, end_is_row, entries_are_rows}
+use Rattle.olr_detail.specs.Json.{detailed_object, page_object}
+use Rattle.olr_detail.specs.MatchingDetail.{AreInDetail, Detailed, IsDetailed}
+use Rattle.olr_detail.specs.Text.{detailed_rows}
+use Rattle.olr_text.specs.Texts.{texts_from, texts_of, unnumbered}
 
 -- ---- the end of a page
 
@@ -36,13 +40,54 @@ json_next None mark = refl
 json_next (Some key) mark = refl
 
 -- a page shows its entries, and where it goes on
-pub page_shows : JsonReadsAsPage → (format : Format) (road : RoadMap) (entries : List Entry)
+plain_shows : JsonReadsAsPage → (format : Format) (road : RoadMap) (entries : List Entry)
     (next : Option KeyValue) (mark : Mark) (output : List ℕ) → IsInRangeIfAny next
     → IsPageIn format road entries next (Some mark) output
     → Shows format (parts_of format road entries) (next_cursor next mark) output
-page_shows reads Text road entries next mark output in_range is =
+plain_shows reads Text road entries next mark output in_range is =
     grind (arith, text_shows, entries_are_rows)
-page_shows reads Json road entries next mark output in_range is = grind (arith, json_next)
+plain_shows reads Json road entries next mark output in_range is = grind (arith, json_next)
+
+-- so does a page in detail, with what speaks for each
+detailed_shows : (format : Format) (road : RoadMap) (all : List Detailed)
+    (next : Option KeyValue) (mark : Mark) (output : List ℕ) → IsInRangeIfAny next
+    → IsDetailedPageIn format road all next (Some mark) output
+    → Shows format (detailed_parts_of format road all) (next_cursor next mark) output
+detailed_shows Text road all next mark output in_range is =
+    text_shows (texts_of (detailed_rows road) all) output next mark (detailed_are_rows road all)
+    in_range is
+detailed_shows Json road all next mark output in_range is =
+    record {
+      json = _;
+      output_is = is.line_is;
+      value = page_object road all next (Some mark);
+      reads_as = is.reads_as;
+      matchings = refl;
+      next_is = ap Some (json_next next mark);
+    }
+
+-- an output shows these entries, in detail or not, and where it goes on
+pub record ShowsPage (detail : Bool) (format : Format) (road : RoadMap) (layers : LayersValue)
+    (entries : List Entry) (next : Option (List ℕ)) (output : List ℕ) : Type 0 where
+  pub parts : List (Part format)
+  pub are : ArePartsOf detail format road layers entries parts
+  pub shows : Shows format parts next output
+
+pub page_shows : JsonReadsAsPage → (detail : Bool) (format : Format) (road : RoadMap)
+    (layers : LayersValue) (entries : List Entry) (next : Option KeyValue) (mark : Mark)
+    (output : List ℕ) → IsInRangeIfAny next
+    → IsPageAsAsked detail format road layers entries next (Some mark) output
+    → ShowsPage detail format road layers entries (next_cursor next mark) output
+page_shows reads false format road layers entries next mark output in_range is = record {
+  parts = parts_of format road entries;
+  are = refl;
+  shows = plain_shows reads format road entries next mark output in_range is;
+}
+page_shows reads true format road layers entries next mark output in_range is = record {
+  parts = detailed_parts_of format road is.all;
+  are = record { all = is.all; are = is.are; parts_are = refl };
+  shows = detailed_shows format road is.all next mark output in_range is.text_is;
+}
 
 -- ---- an output shows one thing
 
@@ -88,7 +133,59 @@ rows_append : (road : RoadMap) (a b : List Entry)
 rows_append road [] b = refl
 rows_append road (entry ∷ a) b = grind (arith, append_assoc, rows_append road a b)
 
-pub parts_append : (format : Format) (road : RoadMap) (a b : List Entry)
+plain_append : (format : Format) (road : RoadMap) (a b : List Entry)
     → parts_of format road (a ++ b) ≡ parts_of format road a ++ parts_of format road b
-parts_append Text road a b = rows_append road a b
-parts_append Json road a b = map-append (entry_object road) a b
+plain_append Text road a b = rows_append road a b
+plain_append Json road a b = map-append (entry_object road) a b
+
+-- rows that don't show their number are the same from each number on
+from_any : (road : RoadMap) (number other : ℕ) (all : List Detailed)
+    → texts_from (unnumbered (detailed_rows road)) number all
+    ≡ texts_from (unnumbered (detailed_rows road)) other all
+from_any road number other [] = refl
+from_any road number other (one ∷ all) = ap (λ rest. detailed_rows road one ++ rest)
+    (from_any road (number + 1) (other + 1) all)
+
+detailed_rows_append : (road : RoadMap) (number : ℕ) (a b : List Detailed)
+    → texts_from (unnumbered (detailed_rows road)) number (a ++ b)
+    ≡ texts_from (unnumbered (detailed_rows road)) number a ++ texts_of (detailed_rows road) b
+detailed_rows_append road number [] b = from_any road number 1 b
+detailed_rows_append road number (one ∷ a) b =
+    let rows : List ℕ = detailed_rows road one in
+    let rest : List ℕ = texts_from (unnumbered (detailed_rows road)) (number + 1) a in
+    ap (λ l. rows ++ l) (detailed_rows_append road (number + 1) a b)
+    ∙ sym (append_assoc rows rest (texts_of (detailed_rows road) b))
+
+detailed_append : (format : Format) (road : RoadMap) (a b : List Detailed)
+    → detailed_parts_of format road (a ++ b)
+    ≡ detailed_parts_of format road a ++ detailed_parts_of format road b
+detailed_append Text road a b = detailed_rows_append road 1 a b
+detailed_append Json road a b = map-append (detailed_object road) a b
+
+-- what is in detail in two parts is so as one
+in_detail_append : (road : RoadMap) (layers : LayersValue) (a b : List Entry)
+    (all others : List Detailed) → AreInDetail layers.tolerances layers.reference road a all
+    → AreInDetail layers.tolerances layers.reference road b others
+    → AreInDetail layers.tolerances layers.reference road (a ++ b) (all ++ others)
+in_detail_append road layers a b all others are their = record {
+  entries_are = rw (
+    map-append (λ (one : Detailed). one.entry) all others,
+    are.entries_are,
+    their.entries_are,
+  ) refl;
+  each = All-append (IsDetailed layers.tolerances layers.reference road) all others are.each
+      their.each;
+}
+
+pub parts_append : (detail : Bool) (format : Format) (road : RoadMap) (layers : LayersValue)
+    (a b : List Entry) (parts others : List (Part format))
+    → ArePartsOf detail format road layers a parts → ArePartsOf detail format road layers b others
+    → ArePartsOf detail format road layers (a ++ b) (parts ++ others)
+parts_append false format road layers a b parts others are their =
+    rw (are, their) (sym (plain_append format road a b))
+parts_append true format road layers a b parts others are their = record {
+  all = are.all ++ their.all;
+  are = in_detail_append road layers a b are.all their.all are.are their.are;
+  parts_are = rw (are.parts_are, their.parts_are)
+      (sym (detailed_append format road are.all their.all));
+}

@@ -42,7 +42,7 @@ pub record PrintsPage (format : Format) (inputs : Inputs) (facts : Facts)
   pub is_page : IsPageAfter facts.keys named size page
   pub mark : Mark
   pub marked : page.more ≡ true → IsFingerprint inputs.text inputs.tolerances facts.road mark
-  pub is_text : IsTextOfPage format facts.road facts.layers (Some mark) page output
+  pub is_text : IsTextOfPage inputs.detail format facts.road facts.layers (Some mark) page output
 
 -- ---- the stages of an answer
 
@@ -95,8 +95,8 @@ prints format inputs cursor run is =
             IsFingerprint text inputs.tolerances output.2.0 on.is_mark.0) asks.text_is
             (on.is_mark.2 on.page (0, omega arith, refl) more);
         is_text = subst (λ mark.
-            IsTextOfPage format output.2.0 on.layers mark on.page run.output) on.is_mark.1
-            on.is_text;
+            IsTextOfPage inputs.detail format output.2.0 on.layers mark on.page run.output)
+            on.is_mark.1 on.is_text;
       };
     }
 

@@ -6,10 +6,13 @@ use Rattle.std.proofs.lemmas.Bool.Decides.{nat_tests}
 use Rattle.std.proofs.lemmas.Float.{T_from_true}
 use Rattle.std.proofs.lemmas.List.Sums.{AllPass-from_list_all}
 use Rattle.std.specs.Fmt.{digit_glyph}
-use Rattle.olr_app_laws.proofs.Common.{RoadMap, cursor_text, IsInRange, KeyValue, Mark, entries_rows, ◌≡◌, ℕ, ◌<◌, ◌^◌, List, [], ◌∷◌, ◌++◌, append_assoc, inl, inr, Option, None, Some, append-nil, append_cancel_right, All-append, All-cons, All-head, All-nil, All-tail, All-weaker, list_all, ◌≢◌, All, codes, decimal, eqb, not, true, hexadecimal, key_text, ranks_text, IsRank, Entry, end_row, entry_rows, leg_rows, location_rows, part_row, pieces_row, place_row, point_rows, AreRows, IsLastRow, IsRow}
+use Rattle.olr_app_laws.proofs.Common.{RoadMap, cursor_text, IsInRange, KeyValue, Mark, entries_rows, ◌≡◌, ℕ, ◌+◌, ◌<◌, ◌^◌, List, [], ◌∷◌, ◌++◌, append_assoc, inl, inr, Option, None, Some, append-nil, append_cancel_right, All-append, All-cons, All-head, All-nil, All-tail, All-weaker, list_all, ◌≢◌, All, codes, decimal, eqb, not, true, hexadecimal, key_text, ranks_text, IsRank, Entry, end_row, entry_rows, leg_rows, location_rows, part_row, pieces_row, place_row, point_rows, AreRows, IsLastRow, IsRow}
+use Rattle.olr_detail.specs.MatchingDetail.{Detailed}
+use Rattle.olr_detail.specs.Text.{detail_rows, detailed_rows, likely_text}
 use Rattle.olr_road.specs.declared.place.Place.{Place}
 use Rattle.olr_keys.proofs.Lacking.{lacks_decimal, not_cut}
 use Rattle.olr_report.specs.Location.{LocatedLine, LocatedPoint, LocatedValue}
+use Rattle.olr_text.specs.Texts.{texts_from, texts_of, unnumbered}
 
 -- another byte than a line feed
 abbrev pub IsOther : ℕ → Type 0
@@ -167,6 +170,27 @@ entries_are_rows road [] = inl refl
 entries_are_rows road (entry ∷ entries) =
     rows_after (entry_rows road entry) (entries_rows road entries) (inr (entry_ends road entry))
     (entries_are_rows road entries)
+
+-- ---- the rows of matchings in detail
+
+detailed_ends : (road : RoadMap) (one : Detailed) → EndsRow (detailed_rows road one)
+detailed_ends road one =
+    let front : List ℕ = codes "matching " ++ key_text one.entry.key
+    ++ likely_text one.detail.likely ++ codes "\n" ++ detail_rows road one.detail
+    ++ pieces_row road (codes "route") one.entry.route in
+    ends_after front (location_rows road one.entry.located)
+    (location_ends road one.entry.located)
+
+detailed_from : (road : RoadMap) (number : ℕ) (all : List Detailed)
+    → AreRows (texts_from (unnumbered (detailed_rows road)) number all)
+detailed_from road number [] = inl refl
+detailed_from road number (one ∷ all) = rows_after (detailed_rows road one)
+    (texts_from (unnumbered (detailed_rows road)) (number + 1) all) (inr (detailed_ends road one))
+    (detailed_from road (number + 1) all)
+
+pub detailed_are_rows : (road : RoadMap) (all : List Detailed)
+    → AreRows (texts_of (detailed_rows road) all)
+detailed_are_rows road all = detailed_from road 1 all
 
 -- ---- no line feed in the text of a cursor
 

@@ -1,16 +1,20 @@
 -- A request has one answer by known texts, from the laws of the crates below.
 use Rattle.olr_text.specs.JsonValues.{IsJsonLine}
-use Rattle.olr_app_laws.proofs.Common.{Reference, IsSoundMap, RoadMap, AreLists, Entry, Candidate, Tolerances, AreAnswers, KeyValue, IsKey, IsPageAfter, PageValue, Penalties, CursorRead, Mark, LayersValue, next_after, IsStart, Accepts, IsAnswer, IsAnswerOf, IsAnswerOn, IsMapOfFiles, fault_of_map, fault_of, OneOutcome, AreLayers, AreMatchings, ArePages, ArePagesAsked, IsOfInputs, IsPageIn, IsPrinted, IsStartHere, IsTextOfPage, OnLayers, OnStart, key_of, text_of, Accepted, TooManyCandidates, Format, Json, Text, MatchRequest, Pages, One, Request, Candidates, Match, Places, Show, ◌≡◌, ℕ, ◌+◌, suc, Bool, true, false, List, [], ◌∷◌, None, Option, Some, Ok, Err, refl, ap, sym, subst, ◌∙◌, arith, inl, inr, All-contains, none-some, AllZip, concat, Contains, IfSome, if◌then◌else◌, Data, Laws, known, RefusedByName, cursor_in, Why, accepted_once, IsSingle, first_then, no_fault_once, no_ok_and_err, same_err}
-use Rattle.olr_places.specs.Looking.{IsLooked, Looked}
-use Rattle.olr_places.specs.declared.limits.PlaceLimits.{PlaceLimits}
+use Rattle.olr_app_laws.proofs.Common.{Reference, IsSoundMap, RoadMap, AreLists, Entry, Candidate, Tolerances, AreAnswers, KeyValue, IsKey, IsPageAfter, PageValue, Penalties, CursorRead, Mark, LayersValue, next_after, IsStart, Accepts, IsAnswer, IsAnswerOf, IsAnswerOn, IsMapOfFiles, fault_of_map, fault_of, OneOutcome, AreLayers, AreMatchings, ArePages, ArePagesAsked, IsOfInputs, IsDetailedPageIn, IsPageAsAsked, IsPageIn, IsPrinted, IsStartHere, IsTextOfPage, OnLayers, OnStart, key_of, text_of, Accepted, TooManyCandidates, Format, Json, Text, MatchRequest, Pages, One, Request, Candidates, Match, Places, Show, ◌≡◌, ℕ, ◌+◌, suc, Bool, true, false, List, [], ◌∷◌, None, Option, Some, Ok, Err, refl, ap, sym, subst, ◌∙◌, arith, inl, inr, All, All-contains, All-head, All-tail, none-some, AllZip, concat, Contains, IfSome, if◌then◌else◌, Data, Laws, known, RefusedByName, cursor_in, Why, accepted_once, IsSingle, first_then, no_fault_once, no_ok_and_err, same_err}
+use Rattle.olr_detail.specs.MatchingDetail.{Detailed, IsDetailed, entries_of}
+use Rattle.olr_detail.specs.declared.candidate_detail.CandidateDetail.{CandidateDetail}
+use Rattle.olr_likely.specs.Json.{shown_object}
+use Rattle.olr_likely.specs.Text.{shown_text}
+use Rattle.olr_likely.specs.declared.showing.ShownPlaces.{ShownPlaces}
 use Rattle.olr_why.specs.Reasons.{WhyValue}
 use Rattle.olr_app.specs.Answer.{IsReferenceIn}
-use Rattle.olr_app.specs.Listing.{IsListed, IsListingIn}
+use Rattle.olr_app.specs.Listing.{IsDetailedListingIn, IsListed, IsListingAsAsked, IsListingIn}
 use Rattle.olr_app.specs.Matching.{IsMarkOf}
 use Rattle.olr_app.specs.Places.{ArePlaces, ArePlacesOn, IsPlacesIn}
 use Rattle.olr_app.specs.Stages.{OrTooMany}
 use Rattle.olr_app.specs.Why.{AreReasons, IsWhyIn}
-use Rattle.olr_request.specs.declared.request.Pages.TheVariants.{All}
+use Rattle.olr_request.specs.declared.request.Pages.TheVariants.{All as EveryPage}
+use Rattle.olr_request.specs.declared.request.PlacesRequest.{PlacesRequest}
 
 -- two relations that give each item the same give a list the same
 zip_once : {A B : Type 0} (R S : A → B → Type 0) (xs : List A) (ys zs : List B)
@@ -45,11 +49,18 @@ listing_in : (format : Format) (road : RoadMap) (lists : List (List Candidate))
 listing_in Text road lists text other is again = is ∙ sym again
 listing_in Json road lists text other is again = same_line refl is again
 
-places_in : (format : Format) (road : RoadMap) (limits : PlaceLimits) (looked : Looked)
-    (text again : List ℕ) → IsPlacesIn format road limits looked text
-    → IsPlacesIn format road limits looked again → text ≡ again
-places_in Text road limits looked text again is its = is ∙ sym its
-places_in Json road limits looked text again is its = same_line refl is its
+details_in : (format : Format) (road : RoadMap) (details : List (List CandidateDetail))
+    (text other : List ℕ) → IsDetailedListingIn format road details text
+    → IsDetailedListingIn format road details other → text ≡ other
+details_in Text road details text other is again = is ∙ sym again
+details_in Json road details text other is again = same_line refl is again
+
+-- places that have one text and one JSON
+places_in : (format : Format) (road : RoadMap) (one other : ShownPlaces) (text again : List ℕ)
+    → shown_text road one ≡ shown_text road other → shown_object road one ≡ shown_object road other
+    → IsPlacesIn format road one text → IsPlacesIn format road other again → text ≡ again
+places_in Text road one other text again rows values is its = is ∙ rows ∙ sym its
+places_in Json road one other text again rows values is its = same_line values is its
 
 reasons_in : (format : Format) (road : RoadMap) (why : WhyValue) (text again : List ℕ)
     → IsWhyIn format road why text → IsWhyIn format road why again → text ≡ again
@@ -95,12 +106,25 @@ module _ (laws : Laws) where
       (λ one other is again.
       laws.layers road one other is.0 again.0 (is.1 ∙ sym again.1) (is.2 ∙ sym again.2))
 
-  listed_once : (format : Format) (tolerances : Tolerances) (reference : Reference)
-      (road : RoadMap) → IsSingle (IsListed format tolerances reference road)
-  listed_once format tolerances reference road = lists_or_fault tolerances reference road _
-      (λ text is. (is.lists, is.candidates))
-      (λ one other is again. listing_in _ _ _ _ _ is.text_is
-      (rw (laws.lists _ _ _ _ _ is.candidates again.candidates) again.text_is))
+  listing_once : (detail : Bool) (format : Format) (tolerances : Tolerances)
+      (reference : Reference) (road : RoadMap) (lists : List (List Candidate)) (text other : List ℕ)
+      → IsListingAsAsked detail format tolerances reference road lists text
+      → IsListingAsAsked detail format tolerances reference road lists other → text ≡ other
+  listing_once false format tolerances reference road lists text other is again =
+      listing_in format road lists text other is again
+  listing_once true format tolerances reference road lists text other is again =
+      let details = laws.listing_detail tolerances reference road.lines lists is.details
+      again.details is.are again.are in
+      details_in format road again.details text other
+      (subst (λ list. IsDetailedListingIn format road list text) details is.text_is) again.text_is
+
+  listed_once : (detail : Bool) (format : Format) (tolerances : Tolerances)
+      (reference : Reference) (road : RoadMap)
+      → IsSingle (IsListed detail format tolerances reference road)
+  listed_once detail format tolerances reference road =
+      lists_or_fault tolerances reference road _ (λ text is. (is.lists, is.candidates))
+      (λ one other is again. listing_once detail format tolerances reference road is.lists one other
+      is.text_is (rw (laws.lists _ _ _ _ _ is.candidates again.candidates) again.text_is))
 
   -- ---- pages
 
@@ -108,7 +132,7 @@ module _ (laws : Laws) where
       (after : Option KeyValue) (one other : List PageValue) → AreAnswers penalties answers
       → ArePagesAsked answers size pages after one → ArePagesAsked answers size pages after other
       → one ≡ other
-  asked_once size All after one other are is again = laws.chain _ _ _ _ _ _ are is again
+  asked_once size EveryPage after one other are is again = laws.chain _ _ _ _ _ _ are is again
   asked_once size (One cursor) after one other are is again =
       is.1 ∙ ap (λ page. page ∷ []) (laws.page _ _ _ _ _ _ are is.2 again.2) ∙ sym again.1
 
@@ -117,7 +141,8 @@ module _ (laws : Laws) where
       (start : Option CursorRead) (list : List PageValue) (read : CursorRead)
       → IsStart (cursor_in pages) (Ok start) → start ≡ Some read → ¬ (IsKey penalties read.key)
       → AreAnswers penalties answers → ArePagesAsked answers size pages (key_of start) list → ⊥
-  no_both size All start list read begins has other are asked = none-some read (sym begins ∙ has)
+  no_both size EveryPage start list read begins has other are asked =
+      none-some read (sym begins ∙ has)
   no_both {penalties} {answers} size (One cursor) start list read begins has other are asked =
       other (All-contains (IsKey penalties) _ _ are.only
       (laws.no_page_after_others _ _ _ _
@@ -153,32 +178,75 @@ module _ (laws : Laws) where
   one_in Json road entries page mark other text again same is its =
       grind (arith, same_line, ends_alike)
 
+  -- the same, where what speaks for each matching is shown with it
+  one_in_detail : (format : Format) (road : RoadMap) (all : List Detailed) (page : PageValue)
+      (mark other : Option Mark) (text again : List ℕ) → (page.more ≡ true → mark ≡ other)
+      → IsDetailedPageIn format road all (next_after page) mark text
+      → IsDetailedPageIn format road all (next_after page) other again → text ≡ again
+  one_in_detail Text road all page mark other text again same is its = grind (arith, ends_alike)
+  one_in_detail Json road all page mark other text again same is its =
+      grind (arith, same_line, ends_alike)
+
+  -- what speaks for matchings is one thing for each
+  pub detailed_once : (tolerances : Tolerances) (reference : Reference) (road : RoadMap)
+      (all others : List Detailed) → entries_of all ≡ entries_of others
+      → All (IsDetailed tolerances reference road) all
+      → All (IsDetailed tolerances reference road) others → all ≡ others
+  detailed_once tolerances reference road [] [] same are their = refl
+  detailed_once tolerances reference road [] (other ∷ others) same are their = absurd cc
+  detailed_once tolerances reference road (one ∷ all) [] same are their = absurd cc
+  detailed_once tolerances reference road (one ∷ all) (other ∷ others) same are their =
+      let is_detailed = IsDetailed tolerances reference road in
+      let entry : one.entry ≡ other.entry = cc in
+      let entries : entries_of all ≡ entries_of others = cc in
+      let its = All-head is_detailed other others their in
+      let detail = laws.matching_detail tolerances reference road one.entry.matched one.entry.route
+      one.detail other.detail (All-head is_detailed one all are) (rw entry its) in
+      let rest = detailed_once tolerances reference road all others entries
+      (All-tail is_detailed one all are) (All-tail is_detailed other others their) in
+      λ k. record { entry = entry k; detail = detail k } ∷ rest k
+
+  module _ (road : RoadMap) (layers : LayersValue) where
+    asked_page_once : (detail : Bool) (format : Format) (entries : List Entry) (page : PageValue)
+        (mark other : Option Mark) (text again : List ℕ) → (page.more ≡ true → mark ≡ other)
+        → IsPageAsAsked detail format road layers entries (next_after page) mark text
+        → IsPageAsAsked detail format road layers entries (next_after page) other again
+        → text ≡ again
+    asked_page_once false format entries page mark other text again same is its =
+        one_in format road entries page mark other text again same is its
+    asked_page_once true format entries page mark other text again same is its =
+        let all = detailed_once layers.tolerances layers.reference road is.all its.all
+        (is.are.entries_are ∙ sym its.are.entries_are) is.are.each its.are.each in
+        one_in_detail format road its.all page mark other text again same
+        (subst (λ list. IsDetailedPageIn format road list (next_after page) mark text) all
+        is.text_is) its.text_is
+
   module _ (road : RoadMap) (layers : LayersValue) (sound : IsSoundMap road) where
-    pub page_once : (format : Format) (mark other : Option Mark) (page : PageValue)
-        (text again : List ℕ) → (page.more ≡ true → mark ≡ other)
-        → IsTextOfPage format road layers mark page text
-        → IsTextOfPage format road layers other page again → text ≡ again
-    page_once format mark other page text again same is its =
+    pub page_once : (detail : Bool) (format : Format) (mark other : Option Mark)
+        (page : PageValue) (text again : List ℕ) → (page.more ≡ true → mark ≡ other)
+        → IsTextOfPage detail format road layers mark page text
+        → IsTextOfPage detail format road layers other page again → text ≡ again
+    page_once detail format mark other page text again same is its =
         let entries = laws.entries road layers sound page.keys is.entries its.entries is.are its.are
         in
-        one_in format road its.entries page mark other text again same
-        (subst (λ list. IsPageIn format road list (next_after page) mark text) entries is.text_is)
-        its.text_is
+        asked_page_once road layers detail format its.entries page mark other text again same
+        (subst (λ list. IsPageAsAsked detail format road layers list (next_after page) mark text)
+        entries is.text_is) its.text_is
 
-    texts_once : (format : Format) (mark other : Option Mark) (pages : List PageValue)
-        (texts again : List (List ℕ))
+    texts_once : (detail : Bool) (format : Format) (mark other : Option Mark)
+        (pages : List PageValue) (texts again : List (List ℕ))
         → ((page : PageValue) → Contains pages page → page.more ≡ true → mark ≡ other)
-        → AllZip (IsTextOfPage format road layers mark) pages texts
-        → AllZip (IsTextOfPage format road layers other) pages again → texts ≡ again
-    texts_once format mark other pages texts again same =
-        zip_once (IsTextOfPage format road layers mark) (IsTextOfPage format road layers other)
-        pages texts again (λ page text its has. page_once format mark other page text its
-        (same page has))
+        → AllZip (IsTextOfPage detail format road layers mark) pages texts
+        → AllZip (IsTextOfPage detail format road layers other) pages again → texts ≡ again
+    texts_once detail format mark other pages texts again same =
+        zip_once (IsTextOfPage detail format road layers mark)
+        (IsTextOfPage detail format road layers other) pages texts again
+        (λ page text its has. page_once detail format mark other page text its (same page has))
 
     printed_once : (marks : Bool) (asked : MatchRequest) (pages : List PageValue)
         → IsSingle (IsPrinted marks asked road layers pages)
     printed_once marks asked pages = no_fault_once _ (λ one other is again.
-        let texts = texts_once asked.format is.mark again.mark pages is.texts.texts
+        let texts = texts_once asked.detail asked.format is.mark again.mark pages is.texts.texts
         again.texts.texts (mark_once marks asked.text.now asked.tolerances road pages is.mark
         again.mark is.is_mark again.is_mark) is.texts.each again.texts.each in
         is.texts.whole ∙ ap (λ all. concat all) texts ∙ sym again.texts.whole)
@@ -215,17 +283,17 @@ module _ (laws : Laws) where
 
   -- ---- places and reasons
 
-  places_once : (format : Format) (tolerances : Tolerances) (limits : PlaceLimits)
-      (reference : Reference) (road : RoadMap) → IsSoundMap road
-      → IsSingle (ArePlaces format tolerances limits reference road)
-  places_once format tolerances limits reference road sound =
-      first_then _ (ArePlacesOn format limits road) (layers_once tolerances reference road)
+  places_once : (asked : PlacesRequest) (reference : Reference) (road : RoadMap)
+      → IsSoundMap road → IsSingle (ArePlaces asked reference road)
+  places_once asked reference road sound =
+      first_then _ (ArePlacesOn asked road) (layers_once asked.tolerances reference road)
       (λ layers are. no_fault_once _ (λ one other is again.
-      let looked = laws.looking limits road layers is.answers again.looked is.looked sound
-      (subst (λ keys. IsLooked limits road layers keys again.looked)
-      (laws.list _ _ _ again.all is.all) again.is_looked) is.is_looked in
-      places_in _ _ _ _ _ _ is.output_is
-      (subst (λ (l : Looked). IsPlacesIn format road limits l other) looked again.output_is)))
+      let rows = laws.places_text laws.looking asked.limits road layers asked.order asked.detail
+      is.shown again.shown sound is.are_asked again.are_asked in
+      let values = laws.places_json laws.looking asked.limits road layers asked.order asked.detail
+      is.shown again.shown sound is.are_asked again.are_asked in
+      places_in asked.format road is.shown again.shown one other rows values is.output_is
+      again.output_is))
 
   reasons_once : (format : Format) (tolerances : Tolerances) (nearest : ℕ)
       (reference : Reference) (road : RoadMap)
@@ -243,12 +311,12 @@ module _ (laws : Laws) where
       → IsSingle (IsAnswerOn marks request accepted road)
   on_map_once marks (Show text format) accepted road is sound =
       grind (arith, no_fault_once, reference_in)
-  on_map_once marks (Candidates text tolerances format) accepted road is sound =
+  on_map_once marks (Candidates text tolerances detail format) accepted road is sound =
       grind (arith, listed_once)
   on_map_once marks (Match asked) accepted road is sound =
       matchings_once marks asked road sound accepted is.1
   on_map_once marks (Places asked) accepted road is sound =
-      places_once asked.format asked.tolerances asked.limits accepted.reference road sound
+      places_once asked accepted.reference road sound
   on_map_once marks (Why asked) accepted road is sound = grind (arith, reasons_once)
 
   module _ (nodes lines bans : List ℕ) where

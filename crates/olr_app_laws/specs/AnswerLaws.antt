@@ -1,7 +1,9 @@
 -- Laws on the answer of one of many requests on a map, beside the one that a run for it prints.
-use Rattle.std.specs.Prelude.{◌≡◌, ℕ, List, Option, None, Some, Ok, Err}
+use Rattle.std.specs.Prelude.{◌≡◌, ℕ, Bool, true, false, List, Option, None, Some, Ok, Err}
 use Rattle.std.specs.Borrow.{Bor}
-use Rattle.olr_app.specs.Common.{Mark, RoadMap}
+use Rattle.olr_app.specs.Common.{IsJsonLine, KeyValue, Mark, RoadMap}
+use Rattle.olr_detail.specs.Json.{page_object}
+use Rattle.olr_detail.specs.MatchingDetail.{Detailed}
 use Rattle.olr_map.specs.Files.{IsMapOf, known}
 use Rattle.olr_road.specs.RoadMap.{IsSoundMap}
 use Rattle.olr_report.specs.JsonLaws.{IsSamePage}
@@ -14,17 +16,33 @@ use Rattle.olr_request.specs.declared.request.Pages.TheVariants.{One}
 use Rattle.olr_request.specs.declared.request.Request.{Request}
 use Rattle.olr_request.specs.declared.request.Request.TheVariants.{Match}
 
--- two outputs are the JSON of the same page, but for the cursor at its end: in the first one it has
--- a mark, in the second one none
-abbrev pub ShowsSame : RoadMap → List ℕ → List ℕ → Type 0
-ShowsSame road output page = (mark : Mark) × IsSamePage road (Some mark) None output page
+-- Two texts are the JSON of one page in detail, with a mark of its own each, or none: they have the
+-- same matchings, the same speaks for each of them, and they go on after the same one.
+pub record IsSamePageInDetail (road : RoadMap) (mark other : Option Mark) (text again : List ℕ)
+    : Type 0 where
+  pub all : List Detailed
+  pub next : Option KeyValue
+  pub text_is : IsJsonLine (page_object road all next mark) text
+  pub again_is : IsJsonLine (page_object road all next other) again
+
+-- the same of a page in detail or not
+abbrev pub IsSamePageAsAsked :
+    Bool → RoadMap → Option Mark → Option Mark → List ℕ → List ℕ → Type 0
+IsSamePageAsAsked false = IsSamePage
+IsSamePageAsAsked true = IsSamePageInDetail
+
+-- two outputs are the JSON of the same page, in detail or not, but for the cursor at its end: in the
+-- first one it has a mark, in the second one none
+abbrev pub ShowsSame : Bool → RoadMap → List ℕ → List ℕ → Type 0
+ShowsSame detail road output page =
+    (mark : Mark) × IsSamePageAsAsked detail road (Some mark) None output page
 
 -- The output of a run, and that without marks, are the same bytes, but where matchings are asked
 -- for: then one page as JSON is the same page. Of pages as text, and of all pages, nothing is
 -- stated here, since no question of many texts asks for them.
 abbrev pub IsSameOutput : Request → RoadMap → List ℕ → List ℕ → Type 0
 IsSameOutput (Match asked) road output answer = (begins : Option (Bor (List ℕ)))
-    → asked.pages ≡ One begins → asked.format ≡ Json → ShowsSame road output answer
+    → asked.pages ≡ One begins → asked.format ≡ Json → ShowsSame asked.detail road output answer
 IsSameOutput other road output answer = answer ≡ output
 
 -- the answer of one of many requests is such an output of a run on the same files

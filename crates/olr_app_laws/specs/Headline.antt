@@ -2,8 +2,9 @@
 -- and tolerances, take runs of which each begins at the cursor at the end of the output before it,
 -- up to the run whose output says that there are no more matchings. What their outputs show,
 -- joined, is all matchings, each once, by the total and then by the ranks. Where the first run
--- begins at the cursor of a matching, it is exactly the matchings after it.
-use Rattle.std.specs.Prelude.{◌≡◌, ℕ, ◌≤◌, List, [], ◌∷◌, ◌++◌, Option, None, Some, length, All, ⊤}
+-- begins at the cursor of a matching, it is exactly the matchings after it. Where the runs are
+-- asked for pages in detail, each matching is shown with what speaks for it.
+use Rattle.std.specs.Prelude.{◌≡◌, ℕ, ◌≤◌, Bool, List, [], ◌∷◌, ◌++◌, Option, None, Some, length, All, ⊤}
 use Rattle.std.specs.Prelude.{Contains, IfSome, Result, Ok, Err}
 use Rattle.std.specs.Borrow.{Bor}
 use Rattle.olr_app.specs.Common.{IsOutcome, Refused, Tolerances, IsFingerprint, AreAnswers, KeyValue, CursorRead, Mark, RoadMap, AreLayersOn, LayersValue}
@@ -13,7 +14,7 @@ use Rattle.olr_map.specs.Files.{IsMapOf, Texts, known}
 use Rattle.olr_report.specs.Entries.{AreEntriesAt, Entry}
 use Rattle.olr_app.specs.Answer.{IsAnswer, IsOutput}
 use Rattle.olr_request.specs.Fault.{fault_of}
-use Rattle.olr_app_laws.specs.HeadlineOutputs.{Part, Shows, parts_of}
+use Rattle.olr_app_laws.specs.HeadlineOutputs.{ArePartsOf, Part, Shows}
 use Rattle.olr_app.specs.Matching.{IsOfInputs}
 use Rattle.olr_request.specs.Request.{bytes_of, text_of}
 use Rattle.olr_request.specs.declared.fault.Fault.{Fault}
@@ -28,13 +29,14 @@ use Rattle.olr_request.specs.declared.request.Request.TheVariants.{Match}
 -- ---- the inputs
 
 -- what the runs have in common: the bytes of the three files of a map and of the text of a
--- reference, and tolerances
+-- reference, tolerances, and whether a page says what speaks for each matching
 pub record Inputs : Type 0 where
   pub nodes : List ℕ
   pub lines : List ℕ
   pub bans : List ℕ
   pub text : List ℕ
   pub tolerances : Tolerances
+  pub detail : Bool
 
 -- what is known of the files of the map
 abbrev pub files_of : Inputs → Texts
@@ -79,6 +81,7 @@ request_of inputs text size pages format =
       tolerances = inputs.tolerances;
       size = size;
       pages = pages;
+      detail = inputs.detail;
       format = format;
     }
 
@@ -125,12 +128,12 @@ Names (Some cursor) key =
     (read : CursorRead) × (key ≡ Some read.key) × IsCursorOf read.key read.mark cursor
 
 -- the parts that show the matchings of these keys, in order: of each its key, its parts, its joined
--- route and the location on it
-pub record AreShown (format : Format) (road : RoadMap) (layers : LayersValue) (keys : List KeyValue)
-    (parts : List (Part format)) : Type 0 where
+-- route and the location on it, and in detail what speaks for it
+pub record AreShown (detail : Bool) (format : Format) (road : RoadMap) (layers : LayersValue)
+    (keys : List KeyValue) (parts : List (Part format)) : Type 0 where
   pub entries : List Entry
   pub are : AreEntriesAt road layers keys entries
-  pub parts_are : parts ≡ parts_of format road entries
+  pub parts_are : ArePartsOf detail format road layers entries parts
 
 -- the parts that show exactly the matchings of the inputs that come after the one that a cursor
 -- names; without a cursor, all
@@ -141,7 +144,7 @@ pub record AreShownAfter (format : Format) (inputs : Inputs) (cursor : Option (L
   pub names : Names cursor named
   pub rest : List KeyValue
   pub is_rest : IsRestAfter all.keys named rest
-  pub shown : AreShown format all.road all.layers rest parts
+  pub shown : AreShown inputs.detail format all.road all.layers rest parts
 
 -- ---- the headline
 

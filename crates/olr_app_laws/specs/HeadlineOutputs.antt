@@ -1,18 +1,22 @@
--- What an output shows of the matchings, in either format, and where it goes on: a text by its
--- rows, of which the last one says it, and JSON by what a reader finds under the names of its
--- members.
-use Rattle.std.specs.Prelude.{◌≡◌, ◌≢◌, ℕ, ◌⊎◌, List, [], ◌∷◌, ◌++◌, map, All, Option, None, Some}
+-- What an output shows of the matchings, in either format, in detail or not, and where it goes on: a
+-- text by its rows, of which the last one says it, and JSON by what a reader finds under the names
+-- of its members.
+use Rattle.std.specs.Prelude.{◌≡◌, ◌≢◌, ℕ, ◌⊎◌, Bool, true, false, List, [], ◌∷◌, ◌++◌, map, All, Option, None, Some}
 use Rattle.std.specs.Prelude.{codes}
 use Rattle.serde_json.specs.Data.{Data, array, null, string}
 use Rattle.serde_json.specs.Find.{get}
 use Rattle.serde_json.specs.Read.{read}
 use Rattle.serde_json.specs.View.{items_of}
-use Rattle.olr_app.specs.Common.{RoadMap}
+use Rattle.olr_app.specs.Common.{LayersValue, RoadMap}
+use Rattle.olr_detail.specs.Json.{detailed_object}
+use Rattle.olr_detail.specs.MatchingDetail.{AreInDetail, Detailed}
+use Rattle.olr_detail.specs.Text.{detailed_rows}
 use Rattle.olr_report.specs.Entries.{Entry}
 use Rattle.olr_report.specs.Json.{entry_object}
 use Rattle.olr_report.specs.Text.{entries_rows}
 use Rattle.olr_request.specs.declared.request.Format.{Format}
 use Rattle.olr_request.specs.declared.request.Format.TheVariants.{Json, Text}
+use Rattle.olr_text.specs.Texts.{texts_of}
 
 -- ---- rows
 
@@ -70,3 +74,25 @@ Shows Json values next output = IsObject values next output
 abbrev pub parts_of : (format : Format) → RoadMap → List Entry → List (Part format)
 parts_of Text road entries = entries_rows road entries
 parts_of Json road entries = map (entry_object road) entries
+
+-- ---- in detail or not
+
+-- the parts that show matchings with what speaks for each, in order: the rows of each, or an object
+-- for each
+abbrev pub detailed_parts_of : (format : Format) → RoadMap → List Detailed → List (Part format)
+detailed_parts_of Text road all = texts_of (detailed_rows road) all
+detailed_parts_of Json road all = map (detailed_object road) all
+
+-- the parts that show these matchings in detail: with what speaks for each of them
+pub record ArePartsInDetail (format : Format) (road : RoadMap) (layers : LayersValue)
+    (entries : List Entry) (parts : List (Part format)) : Type 0 where
+  pub all : List Detailed
+  pub are : AreInDetail layers.tolerances layers.reference road entries all
+  pub parts_are : parts ≡ detailed_parts_of format road all
+
+-- the parts that show these matchings, in detail or not
+abbrev pub ArePartsOf : Bool → (format : Format) → RoadMap → LayersValue → List Entry
+    → List (Part format) → Type 0
+ArePartsOf false format road layers entries parts = parts ≡ parts_of format road entries
+ArePartsOf true format road layers entries parts =
+    ArePartsInDetail format road layers entries parts

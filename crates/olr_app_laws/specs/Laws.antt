@@ -3,9 +3,11 @@ use Rattle.std.specs.Prelude.{◌≡◌, ℕ, List}
 use Rattle.olr_app.specs.Accepting.{OneOutcome}
 use Rattle.olr_app.specs.Common.{RoadMap, MapFault}
 use Rattle.olr_candidates.specs.Laws.{NoListsAndTooMany, OneFirstTooMany, OneLists}
+use Rattle.olr_detail.specs.Laws.{OneListing, OneMatchingDetail}
 use Rattle.olr_fingerprint.specs.Fingerprint.{FingerprintIsMark}
 use Rattle.olr_keys.specs.CursorLaws.{OneCursor}
 use Rattle.olr_keys.specs.Laws.{KeysAreInRange, NoPageBehindOthers, OneChain, OneList, OnePage}
+use Rattle.olr_likely.specs.OneAnswer.{OneJson, OneText}
 use Rattle.olr_map.specs.Files.{IsFaultOf, IsMapOf}
 use Rattle.olr_matching.specs.LayersLaws.{OneLayers}
 use Rattle.olr_places_laws.specs.VerdictLaws.{OneLooking}
@@ -46,5 +48,9 @@ pub record Laws : Type 0 where
   pub is_mark : FingerprintIsMark
   pub entries : OneEntries
   pub json_reads : JsonReadsAsPage
+  pub listing_detail : OneListing
+  pub matching_detail : OneMatchingDetail
   pub looking : OneLooking
+  pub places_text : OneText
+  pub places_json : OneJson
   pub why : OneWhy

@@ -31,7 +31,7 @@ IsAnswer asked road text =
 -- an answer is the output of a run; one with matchings shows the same page, but the cursor at the
 -- end of an output has a mark
 abbrev pub IsSameAnswer : QuestionKind → RoadMap → List ℕ → List ℕ → Type 0
-IsSameAnswer (Match size) road output answer = ShowsSame road output answer
+IsSameAnswer (Match size detail) road output answer = ShowsSame detail road output answer
 IsSameAnswer other road output answer = answer ≡ output
 
 -- The answer to a text is what a run prints for it on the same files.

@@ -1,10 +1,12 @@
 //! The headline, with no code: it is the contract of an empty function.
 //!
 //! It speaks of the bytes of several runs that have the same files of a map, the same text of a
-//! reference, the same tolerances and the same format. Each run begins at the cursor at the end of
-//! the output before it, and may have a page size of its own. A text shows matchings by its rows,
-//! of which the last one says whether more follow; JSON shows them by the values of the array
-//! `matchings`, and has that cursor, or null, under the name `next`.
+//! reference, the same tolerances and the same format, and of which all are asked for pages in
+//! detail or none is. Each run begins at the cursor at the end of the output before it, and may have
+//! a page size of its own. A text shows matchings by its rows, of which the last one says whether
+//! more follow; JSON shows them by the values of the array `matchings`, and has that cursor, or
+//! null, under the name `next`. In detail the rows or the value of a matching say what speaks for it,
+//! too.
 
 ghost use Rattle.olr_app_laws.specs.Headline.{AllPages, EachHasCursor, GoesOnHere, Headline};
 ghost use Rattle.olr_app_laws.specs.Headline.{NoneRefused, OneMatchings, RefusedByName, RunsEnd};
@@ -14,9 +16,10 @@ use crate::laws::laws_below;
 
 /// Take runs that follow each other, from the start or from the cursor of a matching, up to one
 /// that says that there are no more matchings. What their outputs show, joined, is all matchings,
-/// or exactly those after that matching: each once, by the total and then by the ranks. Of texts
-/// the rows are joined, without the last row of each; of JSON the members of the arrays. The inputs
-/// have one list of matchings. A text that is no reference is refused by its name.
+/// or exactly those after that matching: each once, by the total and then by the ranks, and in detail
+/// with what speaks for it. Of texts the rows are joined, without the last row of each; of JSON the
+/// members of the arrays. The inputs have one list of matchings. A text that is no reference is
+/// refused by its name.
 #[tactic(auto, using(crate::proofs::HeadlineChain::runs_join))]
 pub fn outputs_join()
     ensures shown { Headline }

@@ -18,10 +18,12 @@ ghost use Rattle.olr_request.specs.declared.request.Request.{Request};
 
 use olr_binary::one_outcome;
 use olr_candidates::{no_lists_and_too_many, one_first_too_many, one_lists};
+use olr_detail::one_detail;
 use olr_fingerprint::fingerprint_is_mark;
 use olr_keys::{
     keys_are_in_range, no_page_behind_others, one_chain, one_cursor, one_list, one_page,
 };
+use olr_likely::one_shown;
 use olr_map::{no_map_and_fault, one_fault, one_map};
 use olr_matching::one_layers;
 use olr_places_laws::one_looking;
@@ -49,7 +51,9 @@ pub(crate) fn laws_below()
     fingerprint_is_mark();
     one_entry();
     json_reads_as_page();
+    one_detail();
     one_looking();
+    one_shown();
     one_why();
 }
 
@@ -62,9 +66,10 @@ pub fn one_answer()
 }
 
 /// The answer of one of many requests on a map is what a run for it alone prints on the same files:
-/// the same bytes for candidates, places and reasons, and for one page of matchings as JSON the
-/// same page, but for the mark in the cursor at its end. It has a fault exactly where that run ends
-/// with this fault of the texts. On a map it has one answer at most or one fault, and not both.
+/// the same bytes for candidates, places and reasons, and for one page of matchings as JSON, in
+/// detail or not, the same page, but for the mark in the cursor at its end. It has a fault exactly
+/// where that run ends with this fault of the texts. On a map it has one answer at most or one fault,
+/// and not both.
 pub fn answers_of_many()
     ensures output { OutputIsOfRun }
     ensures fault { FaultIsOfRun }

@@ -8,13 +8,13 @@ loop-page-preserved c =
     let grown = c.in_ok-push_str.ensures.bytes
     ∙ ap (λ more. string_bytes c.loop-page.output ++ more) c.deref.ensures in (
       c.text_of_page.ensures.same ∙ before.0,
-      one_more _ _ _ _ c.args.pages.now c.loop-page.page-index _ (string_bytes c.loop-page.output) _
+      one_more _ _ _ _ _ c.args.pages.now c.loop-page.page-index _ (string_bytes c.loop-page.output) _
           _ c.loop-page-test.true c.page-item.is before.1
           (rw (before.0, c.as_ref.ensures.value) at c.in_ok-text.ensures.text) grown,
     )
 
 pub returns : goal.returns
 returns c =
-    all_pages_shown _ _ _ _ c.args.pages.now c.loop-page.page-index
+    all_pages_shown _ _ _ _ _ c.args.pages.now c.loop-page.page-index
     (string_bytes c.loop-page.output)
     c.loop-page-test.false c.loop-page.invariant.1
