@@ -73,7 +73,10 @@ fn answer(
     let [nodes, lines, bans] = STREET;
     let (mut nodes, mut lines, mut bans) = (In::new(nodes), In::new(lines), In::new(bans));
     let asked = Question {
-        what: QuestionKind::Match(PageSize::new(10)?),
+        what: QuestionKind::Match {
+            size: PageSize::new(10)?,
+            detail: false,
+        },
         tolerances: Tolerances::default(),
     };
     Ok(run_batch(

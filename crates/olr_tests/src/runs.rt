@@ -26,6 +26,7 @@ fn request_of(asked: Asked, size: PageSize) -> Request<'static> {
         Asked::Candidates => Request::Candidates {
             text,
             tolerances,
+            detail: false,
             format: Format::Text,
         },
         Asked::Match => Request::Match(MatchRequest {
@@ -33,6 +34,7 @@ fn request_of(asked: Asked, size: PageSize) -> Request<'static> {
             tolerances,
             size,
             pages: Pages::One(None),
+            detail: false,
             format: Format::Text,
         }),
     }
