@@ -34,7 +34,7 @@ GOOD = {
 
 def bad_program(file: Path, program: Program, ways: Mapping[str, str]) -> Path:
     """Writes a program that fails at some references, each in one of these ways. It writes a line to `FILE.log` at each start
-    with records, and it is good once `FILE.good` is there."""
+    with records. Once `FILE.good` is there it is good at all records that follow, whenever it was started."""
     known = FAILING | HANGING | GOOD
     cases = "\n".join(f"    if way == {way!r}:\n        {known[way]}" for way in sorted(known))
     file.write_text(
@@ -46,7 +46,7 @@ command = [PROGRAM, *sys.argv[1:]]
 if sys.argv[1] == "answer":
     with open({f"{file}.log"!r}, "a") as log:
         print(*sys.argv[1:], file=log)
-if sys.argv[1] != "answer" or os.path.exists({f"{file}.good"!r}):
+if sys.argv[1] != "answer":
     os.execv(PROGRAM, command)
 given, asked = os.pipe()
 answered, said = os.pipe()
@@ -65,7 +65,9 @@ for record in sys.stdin.buffer:
     if not record.rstrip(b"\\r\\n"): continue
     line = answered.readline()
     way = WAYS.get(record.rstrip(b"\\r\\n").partition(b" -- ")[2].decode("latin-1"))
-    if way is None: put(line)
+    if way is None or os.path.exists({f"{file}.good"!r}):
+        put(line)
+        continue
 {cases}
 asked.close()
 sys.exit(os.waitstatus_to_exitcode(os.waitpid(real, 0)[1]))
