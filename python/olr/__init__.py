@@ -29,7 +29,6 @@ run` wrote, and `olr.Confidence` says how probable places are. All names are imp
 | `messages` | `olr.read_messages` and `olr.read_feed`: files of messages, in all formats |
 | `osm`, `vector`, `importing` | maps from OpenStreetMap files and from other vector files; what both have in common |
 | `checking` | what is wrong with a map's files, and what a map should be looked at for |
-| `likely` | which place of an answer the sender meant, as far as that can be said without trials: the likely order |
 | `confidence` | `olr.Confidence`: how probable it is that a place is the right one, by trials |
 | `trials` | references whose true path is known, and maps that differ as those of two makers do |
 | `near_paths` | other paths of a matching, nearly as short or on worse roads |

@@ -16,11 +16,14 @@ from olr.model.late import Late
 
 
 @cache
-def fields_of(kind: type) -> tuple[tuple[str, str], ...]:
-    """The fields of a dataclass, each with its name in JSON. Others have none."""
+def fields_of(kind: type) -> tuple[tuple[str, str, bool], ...]:
+    """The fields of a dataclass, each with its name in JSON, and whether it is there only if it was asked for. Others have none."""
     if not dataclasses.is_dataclass(kind):
         return ()
-    return tuple((field.name, field.name.rstrip("_")) for field in dataclasses.fields(kind))
+    return tuple(
+        (field.name, field.name.rstrip("_"), bool(field.metadata))
+        for field in dataclasses.fields(kind)
+    )
 
 
 def as_json(answer: Any) -> Any:
@@ -30,7 +33,11 @@ def as_json(answer: Any) -> Any:
     if isinstance(answer, (Late, tuple)):
         return [as_json(item) for item in answer]
     kind: Any = type(answer)
-    found = {name: getattr(answer, field) for field, name in fields_of(kind)}
+    found = {
+        name: getattr(answer, field)
+        for field, name, is_asked_for in fields_of(kind)
+        if not is_asked_for or getattr(answer, field) is not None
+    }
     if "earliest" in found:
         absent = ("earliest", "latest") if found["earliest"] is None else ("outer", "inner")
         found = {name: value for name, value in found.items() if name not in absent}

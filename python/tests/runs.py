@@ -28,7 +28,7 @@ from olr.running.asked_map import AskedMap
 from olr.running.grouping import Grouped
 from olr.running.identity import Build
 from olr.running.joining import join
-from olr.running.question import Question, all_numbers
+from olr.running.question import Question, all_settings
 from olr.running.records import read_records
 from olr.running.run_folder import RunFolder
 from olr.running.tasks import Done, Outcome, outcome_of
@@ -87,7 +87,7 @@ def question_about(
     with Store.open(town.store) as store:
         digest = store.digest
     build = Build.of(program.path)
-    return Question(Content.of(messages), digest, build, "match", all_numbers("match", options))
+    return Question(Content.of(messages), digest, build, "match", all_settings("match", options))
 
 
 def answer_in_this_process(patch: pytest.MonkeyPatch, scratch: Path, program: Path) -> None:

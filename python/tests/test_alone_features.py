@@ -13,14 +13,12 @@ from browser import Browser
 from conftest import TOP, Program
 from feeds import point_along_line
 from olr.asking.records import Answered, Record
-from olr.confidence.judged import Judged, judged
+from olr.confidence.confidence import DEFAULT
 from olr.geometry.network import Network, middle
 from olr.model.answers import Matching, Page, Places
 from olr.model.objects import raw_line, read_answer
 from olr.model.pieces import Piece
 from olr.model.questions import What
-from olr.model.reference import read_reference
-from olr.serving.chosen import chosen_by
 from olr.serving.feature_texts import lines_of
 from olr.serving.judging import listing_of
 from olr.serving.queries import Options, asked_of
@@ -88,31 +86,17 @@ def name_of(pieces: Sequence[Piece]) -> str:
     return ";".join(f"{line} {start} {end}" for line, start, end in pieces)
 
 
-def as_script_has_it(one: Judged | None, answer: bytes) -> Any:
-    """A judgement as its script has it, of an answer of the program."""
-    if one is None:
-        return None
-    listed = json.loads(answer)["places"]
-    places = [
-        {
-            "place": listed[it.rank - 1],
-            "rank": it.rank,
-            "likely": it.likely,
-            "ends": it.ends,
-            "turnsBack": bool(it.turns_back),
-            "probability": it.probability,
-            "reasons": it.reasons,
-        }
-        for it in one.places
-    ]
-    differs = None if one.map_differs is None else one.map_differs._asdict()
-    return {
-        "places": places,
-        "verdict": one.verdict,
-        "margin": one.margin,
-        "noneOfThese": one.none_of_these,
-        "mapDiffers": differs,
-    }
+def lines_in_page(scripts: Browser, asked: Asked, matchings: Sequence[Matching]) -> str:
+    """The lines of features that the scripts make of the program's, which have these matchings."""
+    lines = json.dumps([line.decode() for line in asked.lines])
+    names = ", ".join(map(json.dumps, geometry_of(asked.network, matchings)))
+    judging = (
+        f"judgingBy({DEFAULT.read_text()}, {json.dumps(asked.judged_by.asked.numbers())}).judging"
+    )
+    found: str = scripts.value(
+        f"(judging => {lines}.map((line) => featureLine(line, mapOf({names}), judging)).join(''))({judging})"
+    )
+    return found
 
 
 @pytest.fixture(scope="module")
@@ -156,29 +140,18 @@ def test_places(
 ) -> None:
     folder, texts = maps(name)
     asked = ask(program, folder, texts, "places", options)
-    network, raw = asked.network, list(map(raw_line, asked.lines))
-    answers = [read_answer("places", one.answer, None) for one in raw if one.fault is None]
-    places = [one for one in answers if isinstance(one, Places)]
-    references = [read_reference(text) for text, one in zip(texts, raw) if one.fault is None]
-    judgements = iter(judged(places, references, network, chosen_by(asked.judged_by).judging))
-    paths, points = geometry_of(network, [it.matching for one in places for it in one.places])
-    records = [
-        {
-            "record": one.record,
-            "key": one.key,
-            "fault": one.fault,
-            "found": None if one.fault else as_script_has_it(next(judgements), one.answer),
-        }
-        for one in raw
+    answers = [
+        read_answer("places", raw.answer, None)
+        for raw in map(raw_line, asked.lines)
+        if raw.fault is None
     ]
-    found = scripts.value(
-        f"{json.dumps(records)}.map((one) => featuresOfPlaces(one, mapOf({json.dumps(paths)}, {json.dumps(points)})).map(featureText))"
-    )
-    wanted = lines_of(asked.answered(), network, asked.judged_by).decode()
-    assert "".join(f"\x1e{text}\n" for one in found for text in one) == wanted
+    places = [one for one in answers if isinstance(one, Places)]
+    found = lines_in_page(scripts, asked, [it.matching for one in places for it in one.places])
+    wanted = lines_of(asked.answered(), asked.network, asked.judged_by).decode()
+    assert found == wanted
     assert ('"probability":0.' in wanted) == ("profile" in options)
     if name == "drawn":
-        kinds = {json.loads(text)["properties"]["part"] for one in found for text in one}
+        kinds = {json.loads(text)["properties"]["part"] for text in found.split("\x1e")[1:]}
         assert kinds == {"outer", "point", None}
 
 
@@ -195,11 +168,7 @@ def test_matchings(
         if raw.fault is None
     ]
     pages = [one for one in answers if isinstance(one, Page)]
-    paths, points = geometry_of(asked.network, [it for one in pages for it in one.matchings])
-    given = json.dumps([line.decode() for line in asked.lines])
-    found = scripts.value(
-        f"{given}.map((line) => featureLine(line, '', mapOf({json.dumps(paths)}, {json.dumps(points)}))).join('')"
-    )
+    found = lines_in_page(scripts, asked, [it for one in pages for it in one.matchings])
     assert found == lines_of(asked.answered(), asked.network, asked.judged_by).decode()
 
 
@@ -212,10 +181,8 @@ def test_an_answer_that_is_too_large(scripts: Browser) -> None:
         answer = filled[:-1] + " " * (size - len(filled)) + "}"
         line = f'{{"answer":{answer},"fault":null,"key":"k","record":7}}'
         one = Answered(Record(7, b"k\tx"), answer.encode(), None)
-        script = "judged = () => ({ places: [], verdict: 'none', margin: null }), readReference = () => null, featureLine"
-        found = scripts.value(
-            f"var judged, readReference; {script}({json.dumps(line)}, 'x', null, null)"
-        )
+        judging = "{ confidence: null, shown: { within: 30, most: 10 } }"
+        found = scripts.value(f"featureLine({json.dumps(line)}, null, {judging})")
         assert found == lines_of([one], network, judged_by).decode()
 
 

@@ -1,8 +1,7 @@
-"""What the page that answers by itself says of places: their likely order, probabilities, reasons and rows, beside those of the server."""
+"""What the page that answers by itself says of places: which are shown, as by the program, and probabilities, reasons and rows, as by the server."""
 
 import base64
 import json
-import numpy as np
 import pytest
 import random
 from collections.abc import Mapping
@@ -22,25 +21,12 @@ from olr.confidence.confidence import DEFAULT, Confidence
 from olr.confidence.judged import judged
 from olr.confidence.likeness import Range
 from olr.geometry.network import Network
-from olr.likely.evidence import evidence_of, fit_of
-from olr.likely.long_list import listing
-from olr.likely.order import (
-    Shown,
-    Verdict,
-    are_shown,
-    is_cut_off,
-    likely_costs,
-    likely_order,
-    verdict_within,
-)
-from olr.model.answers import Matching, PlaceOfReference, Places
+from olr.model.answers import Places
 from olr.model.fault import Fault
 from olr.model.map_folder import read_map
 from olr.model.objects import raw_line, read_answer
-from olr.model.pieces import Pieces
 from olr.model.profiles import FEED, PROGRAM, tolerances_of
-from olr.model.questions import NUMBERS, TOLERANCES, all_words
-from olr.model.reference import read_reference
+from olr.model.questions import NUMBERS, TOLERANCES, Setting, all_words, listing
 from olr.serving.row_texts import lines_of
 from olr.serving.tasks import JudgedBy
 from olr.trials.changing import Spreads, changed_points
@@ -122,14 +108,21 @@ def point_of(text: str) -> str:
     ).decode()
 
 
+def lines_with(
+    program: Program, folder: Path, records: list[bytes], settings: Mapping[str, Setting]
+) -> list[str]:
+    """Those of `olr batch places`."""
+    messages = folder.with_name("messages.txt")
+    messages.write_bytes(b"\n".join(records) + b"\n")
+    words = [*all_words(settings), "--map", folder, "--input", messages]
+    return program.run("batch", "places", *words).stdout.splitlines()
+
+
 def asked_with(
     program: Program, folder: Path, records: list[bytes], numbers: Mapping[str, int]
 ) -> Asked:
     """Asks for the long list, as the server does."""
-    messages = folder.with_name("messages.txt")
-    messages.write_bytes(b"\n".join(records) + b"\n")
-    words = [*all_words(listing(numbers)), "--map", folder, "--input", messages]
-    lines = program.run("batch", "places", *words).stdout.splitlines()
+    lines = lines_with(program, folder, records, listing(numbers))
     raw = list(map(raw_line, (line.encode() for line in lines)))
     some = [
         Answered(
@@ -175,14 +168,14 @@ def file(request: pytest.FixtureRequest, tmp_path_factory: pytest.TempPathFactor
     )
 
 
-ROWS = "texts.map((text, at) => rowText(rowOf(lines[at], text, network, judgingBy(confidence, numbers))))"
+ROWS = "lines.map((line) => rowText(rowOf(line, judgingBy(confidence, numbers))))"
 
 
 def test_rows(asked: Asked, file: Path, network: Network, scripts: Scripts) -> None:
     """They are the server's, to the letter."""
     confidence = Confidence.of_file(file)
     wanted = lines_of(asked.some, network, JudgedBy(asked.kind, confidence)).decode().splitlines()
-    given = {"lines": asked.lines, "texts": asked.texts(), "numbers": asked.numbers()}
+    given = {"lines": asked.lines, "numbers": asked.numbers()}
     found = scripts.value(ROWS, confidence=json.loads(file.read_text()), **given)
     assert found == wanted
     rows = list(map(json.loads, wanted))
@@ -206,7 +199,7 @@ def test_rows_of_the_examples(
     asked = asked_with(program, place, messages.split(b"\n")[:-1], tolerances_of(FEED) | DEFAULTS)
     judged_by = JudgedBy(asked.kind, Confidence.default())
     wanted = lines_of(asked.some, Network.read(place), judged_by).decode().splitlines()
-    given = {"lines": asked.lines, "texts": asked.texts(), "numbers": asked.numbers()}
+    given = {"lines": asked.lines, "numbers": asked.numbers()}
     scripts.read_map(place)
     try:
         found = scripts.value(ROWS, confidence=json.loads(DEFAULT.read_text()), **given)
@@ -215,178 +208,93 @@ def test_rows_of_the_examples(
     assert found == wanted and len(wanted) > 5
 
 
-JUDGED = """texts.map((text, at) => {
-  const { answer, fault } = exactJson(lines[at]);
-  return fault === null ? judged(answer, readReference(text), network, judging) : null;
+JUDGED = """lines.map((line) => {
+  const { answer, fault } = exactJson(line);
+  return fault === null ? judged(answer, judging) : null;
 })"""
+
+
+@pytest.mark.parametrize("other", [{}, {"within": 0, "most": 1}])
+def test_what_is_shown(
+    asked: Asked,
+    other: dict[str, int],
+    program: Program,
+    folder: Path,
+    records: list[bytes],
+    scripts: Scripts,
+) -> None:
+    """What the program itself shows with these numbers."""
+    numbers = asked.numbers() | other
+    lines = lines_with(program, folder, records, {**numbers, "order": "likely"})
+    answers = [json.loads(line)["answer"] for line in lines]
+    judging = {"confidence": None, "shown": {name: numbers[name] for name in ("within", "most")}}
+    found = scripts.value(JUDGED, lines=asked.lines, judging=judging)
+    assert [one is None for one in found] == [one is None for one in answers]
+    for said, one in zip(found, answers):
+        if one is not None:
+            ranks = [(it["rank"], it["place"]["matching"]["cursor"]) for it in said["places"]]
+            assert ranks == [(it["rank"], it["matching"]["cursor"]) for it in one["places"]]
+            columns = [said[name] for name in ("verdict", "margin", "isCutOff")]
+            assert columns == [one[name] for name in ("verdict", "margin", "cut")]
+    assert any(one and one["places"] and one["places"][0]["rank"] > 1 for one in answers)
+    assert numbers["look"] > 3 or any(one and one["cut"] for one in answers)
+
+
+LIMITS = """cases.map(([places, next, within, most]) => {
+  const [answer, shown] = [{ places, next, verdict: "none" }, { within, most }];
+  return [areShown(answer, shown), verdictWithin(answer, shown), isCutOff(answer, shown)];
+})"""
+
+
+def test_limits_by_hand(scripts: Scripts) -> None:
+    """Gaps, likely costs and what was reached that are just within a limit, and just beyond it."""
+    of_place = [(0, 300), (31, 1200), (31, 1201), (30, 1300)]
+    places = [{"gap": gap, "cost": cost} for gap, cost in of_place]
+    cases = {
+        (4, "200:1.1", 30, 10): [[0, 1, 3], "ambiguous", True],
+        (4, "201:1.1", 30, 2): [[0, 1], "ambiguous", False],
+        (4, "201:1.1", 29, 10): [[0], "unique", False],
+        (1, "50:1.1", 0, 1): [[0], "open", True],
+        (1, "51:1.1", 0, 1): [[0], "open", False],
+        (1, None, 0, 1): [[0], "unique", False],
+        (0, "0:1.1", 30, 10): [[], "none", False],
+    }
+    given = [[places[:count], *others] for count, *others in cases]
+    assert scripts.value(LIMITS, cases=given) == list(cases.values())
 
 
 def test_judgements(asked: Asked, file: Path, network: Network, scripts: Scripts) -> None:
-    """All places with all numbers: probabilities are the same to the last few bits, all others to the last."""
+    """With all numbers: probabilities are the same to the last few bits, all others to the last."""
     confidence = Confidence.of_file(file)
-    chosen = judging_by(confidence, tolerances_of(FEED), asked.numbers() | {"apart": 750})
-    assert chosen.judging.confidence is confidence
-    answers, references = asked.answers(network), list(map(read_reference, asked.texts()))
-    wanted = judged(answers, references, network, chosen.judging)
-    assert chosen.judging.shown is not None
-    shown = chosen.judging.shown._asdict()
-    judging = {"confidence": json.loads(file.read_text()), "shown": shown}
-    found = scripts.value(JUDGED, lines=asked.lines, texts=asked.texts(), judging=judging)
+    judging = judging_by(confidence, tolerances_of(FEED), asked.numbers() | {"apart": 750}).judging
+    assert judging.confidence is confidence and judging.shown is not None
+    wanted = judged(asked.answers(network), judging)
+    given = {"confidence": json.loads(file.read_text()), "shown": judging.shown._asdict()}
+    found = scripts.value(JUDGED, lines=asked.lines, judging=given)
     assert [one is None for one in found] == [one is None for one in wanted]
-    cut_off = turning_back = 0
     for said, one in zip(found, wanted):
         if one is None:
             continue
-        assert (said["verdict"], said["margin"], said["isCutOff"]) == (
-            one.verdict,
-            one.margin,
-            one.is_cut_off,
-        )
         assert said["noneOfThese"] == pytest.approx(one.none_of_these, abs=1e-12, rel=0)
         assert said["mapDiffers"] == (one.map_differs and one.map_differs._asdict())
-        columns = [
-            (it.rank, it.likely, it.ends, it.turns_back, it.reasons, it.place.matching.cursor)
-            for it in one.places
-        ]
-        assert [
-            (
-                it["rank"],
-                it["likely"],
-                it["ends"],
-                it["turnsBack"],
-                it["reasons"],
-                it["place"]["matching"]["cursor"],
-            )
-            for it in said["places"]
-        ] == columns
-        for place, it in zip(said["places"], one.places):
+        for place, it in zip(said["places"], one.places, strict=True):
+            columns = [place[name] for name in ("likely", "ends", "turnsBack", "reasons")]
+            assert columns == [it.likely, it.ends, it.turns_back, it.reasons]
             assert place["probability"] == pytest.approx(it.probability, abs=1e-12, rel=0)
-        cut_off += one.is_cut_off
-        turning_back += any(it.turns_back for it in one.places)
-    assert turning_back and (cut_off > 0 or asked.numbers()["look"] > 3)
-
-
-EVIDENCE = """lines.map((line, at) => {
-  const { answer } = exactJson(line);
-  return answer === null ? [] : answer.places.map(({ matching }) => {
-    const fit = fitOf(matching, network);
-    return { ...fit, cost: likelyCosts([fit])[0], ...evidenceOf(matching, readReference(texts[at]), network, 75) };
-  });
-}).flat()"""
-
-
-def test_evidence(asked: Asked, network: Network, scripts: Scripts) -> None:
-    matchings, references = [], []
-    for answer, text in zip(asked.answers(network), asked.texts()):
-        for place in answer.places if isinstance(answer, Places) else ():
-            matchings.append(place.matching)
-            reference = read_reference(text)
-            assert reference is not None
-            references.append(reference)
-    fit = fit_of(matchings, network)
-    wanted = evidence_of(matchings, fit, references, network, 75)
-    found = scripts.value(EVIDENCE, lines=asked.lines, texts=asked.texts())
-    for name, values in (
-        ("ends", fit.ends()),
-        ("pointPenalty", fit.point_penalty),
-        ("legPenalty", fit.leg_penalty),
-        ("turnsBack", fit.turns_back),
-        ("lines", fit.lines),
-        ("count", fit.counts),
-        ("cost", likely_costs(fit)),
-    ):
-        assert [one[name] for one in found] == values.tolist(), name
-    for name, values in (
-        ("fromEnd", fit.from_end),
-        ("sectors", wanted.sectors),
-        ("classes", wanted.classes),
-        ("longer", wanted.longer()),
-    ):
-        assert [value for one in found for value in one[name]] == values.tolist(), name
-    distances = np.array([value for one in found for value in one["distance"]])
-    assert np.abs(distances - wanted.distance).max() < 1e-8
-
-
-def test_all_places_in_the_likely_order(asked: Asked, network: Network, scripts: Scripts) -> None:
-    """Without a confidence, and without numbers that say what is shown."""
-    wanted = judged(asked.answers(network), [None] * len(asked.some), network)
-    found = scripts.value(JUDGED, lines=asked.lines, texts=asked.texts(), judging={})
-    for said, one in zip(found, wanted):
-        if one is not None:
-            ranks = [(it.rank, it.probability, it.reasons) for it in one.places]
-            assert [
-                (it["rank"], it["probability"], it["reasons"]) for it in said["places"]
-            ] == ranks
-            assert (said["verdict"], said["noneOfThese"], said["mapDiffers"], said["isCutOff"]) == (
-                one.verdict,
-                None,
-                None,
-                False,
-            )
-
-
-SHOWN = """answers.map((answer, at) => {
-  const { within, most, costs } = all[at];
-  const cut = isCutOff(answer, costs, { within });
-  return [likelyOrder(costs), areShown(answer, costs, { within, most }), verdictWithin(answer, within), cut];
-})"""
-
-
-def test_what_is_shown_of_a_list(scripts: Scripts) -> None:
-    """Of lists in which gaps, likely costs and what was reached are drawn from few numbers, so that many are equal."""
-    draws = random.Random(8)
-    verdicts: tuple[Verdict, ...] = ("unique", "ambiguous", "open")
-    answers, given, wanted = [], [], []
-    for _ in range(400):
-        gaps = sorted(draws.randrange(0, 60, 10) for _ in range(draws.randrange(5)))
-        gaps = [gap - gaps[0] for gap in gaps]
-        costs = [float(draws.randrange(0, 80, 10)) for _ in gaps]
-        reached = draws.choice([None, *range(100, 600, 50)])
-        total = draws.randrange(600)
-        found = (Matching("", (), (), Pieces(()), total + gap) for gap in gaps)
-        answer = Places(
-            looked=9,
-            places=tuple(PlaceOfReference(gap, one, 1) for gap, one in zip(gaps, found)),
-            verdict=draws.choice(verdicts) if gaps else "none",
-            next=None if reached is None else f"{reached}:1.1",
-        )
-        shown, array = Shown(draws.randrange(0, 60, 10), draws.randint(1, 4)), np.array(costs)
-        answers.append(answer.to_dict())
-        given.append({**shown._asdict(), "costs": costs})
-        wanted.append(
-            [
-                likely_order(array),
-                are_shown(answer, array, shown),
-                verdict_within(answer, shown.within),
-                is_cut_off(answer, array, shown),
-            ]
-        )
-    assert scripts.value(SHOWN, answers=answers, all=given) == wanted
-    assert {one[2] for one in wanted} == {"unique", "ambiguous", "open", "none"}
-    assert {one[3] for one in wanted} == {True, False}
+    assert any(it.turns_back for one in wanted if one for it in one.places)
 
 
 def test_why_there_are_no_probabilities(scripts: Scripts) -> None:
     confidence, shipped = Confidence.default(), json.loads(DEFAULT.read_text())
     draws = random.Random(6)
     for _ in range(60):
-        numbers = tolerances_of(FEED) | {"apart": 750}
-        for name in draws.sample(list(numbers), draws.choice([0, 1, 3, 7])):
+        numbers = tolerances_of(FEED) | DEFAULTS
+        for name in draws.sample([*TOLERANCES, "apart"], draws.choice([0, 1, 3, 7])):
             numbers[name] += draws.choice([0, 1, -1])
-        if draws.random() < 0.5:
-            numbers |= {"within": draws.randrange(100), "most": draws.randint(1, 100)}
-        if draws.random() < 0.3:
-            del numbers["apart"]
-        tolerances = {name: numbers[name] for name in TOLERANCES}
-        wanted = judging_by(confidence, tolerances, numbers)
+        numbers |= {"within": draws.randrange(100), "most": draws.randint(1, 100)}
+        wanted = judging_by(confidence, {name: numbers[name] for name in TOLERANCES}, numbers)
         found = scripts.value("judgingBy(confidence, numbers)", confidence=shipped, numbers=numbers)
         assert (found["note"], found["others"]) == (wanted.note, wanted.others)
         assert (found["judging"]["confidence"] is None) == (wanted.judging.confidence is None)
         assert wanted.judging.shown is not None
         assert found["judging"]["shown"] == wanted.judging.shown._asdict()
-    assert scripts.value("listing({ apart: 3, look: 9, within: 5 })") == {
-        "apart": 3,
-        "look": 9,
-        "within": 14620,
-        "most": 100,
-    }

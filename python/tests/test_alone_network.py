@@ -12,7 +12,6 @@ from browser import Browser
 from drawn_maps import Files, damage, draw_files
 from olr.errors import ToolError
 from olr.geometry.network import Network
-from olr.geometry.turning_back import turn_back
 from olr.model.columns import What, joined_columns, read_columns
 from olr.model.map_folder import read_map
 from olr.pages.view.surroundings import Box, Surroundings, path_of
@@ -161,32 +160,6 @@ def test_bans(network: Network, scripts: Scripts, folder: Path) -> None:
     assert scripts.value(is_banned, pairs=pairs) == [pair in bans for pair in (*bans, *turns)]
 
 
-def test_routes_that_turn_back(network: Network, scripts: Scripts) -> None:
-    """All pairs of lines that follow one another, driven whole and in part."""
-    ids, ends, lengths = network.line_id.tolist(), network.end.tolist(), network.length.tolist()
-    starts = network.start.tolist()
-    routes = []
-    for one, end in enumerate(ends):
-        for other in (at for at, start in enumerate(starts) if start == end):
-            whole = [[ids[one], 0, lengths[one]], [ids[other], 0, lengths[other]]]
-            routes += [whole, [whole[1], *whole, whole[1]]]
-            if ends[other] == starts[one]:
-                routes += [
-                    [[ids[one], 0, lengths[one] - 1], whole[1]],
-                    [whole[0], [ids[other], 1, lengths[other]]],
-                ]
-                routes += [
-                    [[ids[one], lengths[one], lengths[one]], whole[1]],
-                    [whole[0], [ids[other], 0, 0]],
-                ]
-                routes += [[[ids[one], 1, lengths[one]], [ids[other], 0, 1]], [whole[0]]]
-    pieces = np.array([piece for route in routes for piece in route])
-    wanted = turn_back(pieces, np.array([len(route) for route in routes]), network).tolist()
-    assert 0 < wanted.count(True) < wanted.count(False)
-    texts = [[[str(line), low, high] for line, low, high in route] for route in routes]
-    assert scripts.value("routes.map((route) => turnsBack(route, network))", routes=texts) == wanted
-
-
 def columns_of(folder: Path) -> Any:
     """The columns of the nodes and lines of a folder, as lists; or the error."""
     whats: tuple[What, ...] = ("nodes", "lines")
@@ -262,10 +235,10 @@ def test_rows_by_hand(row: bytes, is_right: bool, scripts: Scripts, tmp_path: Pa
     assert isinstance(wanted, list) == is_right
 
 
-def test_a_point_on_the_way_and_a_loop(scripts: Scripts, tmp_path: Path) -> None:
-    """A piece that begins or ends at a point of a line has it once; who goes round a loop again doesn't turn back."""
+def test_a_point_on_the_way(scripts: Scripts, tmp_path: Path) -> None:
+    """A piece that begins or ends at a point of a line has it once."""
     (tmp_path / "nodes.csv").write_text("id,lon,lat\n1,0,0\n2,0,1000\n")
-    rows = "7,1,2,3,3,2000,0 500\n9,1,1,3,3,2000,1000 0;1000 1\n"
+    rows = "7,1,2,3,3,2000,0 500\n"
     (tmp_path / "lines.csv").write_text(f"id,from,to,class,form,length,shape\n{rows}")
     network = Network.read(tmp_path)
     texts = {what: text_of(tmp_path / f"{what}.csv") for what in ("nodes", "lines")}
@@ -274,9 +247,6 @@ def test_a_point_on_the_way_and_a_loop(scripts: Scripts, tmp_path: Path) -> None
             "Network.of(texts).path([row])", texts=texts, row=[str(row[0]), *row[1:]]
         )
         assert path == path_of(network.path([row]))
-    round_twice = [["9", 0, 2000]] * 2
-    assert not turn_back(np.array([[9, 0, 2000]] * 2), np.array([2]), network)[0]
-    assert not scripts.value("turnsBack(row, Network.of(texts))", texts=texts, row=round_twice)
 
 
 def test_a_map_that_lacks_a_node(scripts: Scripts, tmp_path: Path) -> None:

@@ -1,6 +1,5 @@
-"""What the page that answers by itself reads: references, the program's JSON, and numbers as Python has them."""
+"""What the page that answers by itself reads: the program's JSON, queries, and numbers as Python has them."""
 
-import base64
 import json
 import math
 import numpy as np
@@ -11,10 +10,12 @@ from pathlib import Path
 from typing import Any
 
 from alone import FOLDER, Scripts
-from asking import draw_map, draw_references
 from browser import Browser
 from conftest import Program
-from olr.model.reference import read_reference
+from olr.model.questions import NUMBERS, What
+from olr.pages.alone import page
+from olr.serving.problems import Problem
+from olr.serving.queries import asked_of
 
 POINTS = ("KwVGnCN20HPDBwFCATFjT5Y=", "KwVGnCN20HPDBwFCATFjDw==")
 """Points along a line, with an offset and without one."""
@@ -37,60 +38,6 @@ def test_no_two_scripts_declare_one_name() -> None:
         for name in ([one] if one else several.split(", "))
     ]
     assert len(names) > 100 and sorted(set(names)) == sorted(names)
-
-
-def references(folder: Path) -> list[str]:
-    """References on a drawn map, and what some of them become by a change: of bits, of the number of bytes, of letters."""
-    draws = random.Random(5)
-    texts = [*draw_references(draw_map(folder, 300, 600), 120), *POINTS]
-    changed = []
-    for text in texts:
-        try:
-            data = bytearray(base64.b64decode(text.strip(), validate=True))
-        except ValueError:
-            continue
-        for _ in range(3):
-            if data:
-                place = draws.choice([0, 1, 4, draws.randrange(len(data)), -1, -2])
-                data[place] ^= 1 << draws.randrange(8)
-            end = len(data) + draws.choice([0, 0, 0, -1, -7])
-            more = b"\x80" * draws.choice([0, 0, 1, 7])
-            changed.append(base64.b64encode(data[: max(end, 0)] + more).decode())
-    spoiled = [
-        " \t" + texts[0] + "\r\n",
-        texts[1] + "=",
-        texts[1][:-1],
-        "\x0b" + texts[0],
-        texts[0] + "\xa0",
-        "====",
-        "",
-    ]
-    # 32 points and 33, and bits of the last letter that stand for nothing.
-    long = [base64.b64encode(b"\x0b" + bytes(9 + 7 * more + 6)).decode() for more in (30, 31)]
-    return [*texts, *changed, *spoiled, *long, *with_offsets(), "CwVF+yN2yhpnBAFdAAsaFh=="]
-
-
-def with_offsets() -> list[str]:
-    """References of both kinds with flags of offsets, and with bytes of offsets."""
-    plain = base64.b64decode("CwVF+yN2yhpnBAFdAAsaFg==")
-    return [
-        base64.b64encode(
-            bytes([kind]) + plain[1:-1] + bytes([plain[-1] | flags]) + offsets
-        ).decode()
-        for kind in (0x0B, 0x2B, 0x8B)
-        for flags in (0, 0x20, 0x40, 0x60)
-        for offsets in (b"", b"\x05", b"\x05\xc8")
-    ]
-
-
-def test_references(scripts: Scripts, tmp_path: Path) -> None:
-    texts = references(tmp_path)
-    wanted = [read_reference(text) for text in texts]
-    kinds = {one.kind if one else None for one in wanted}
-    assert kinds == {"line", "point-along-line", None}
-    assert scripts.value("texts.map(readReference)", texts=texts) == [
-        one and one.to_dict() for one in wanted
-    ]
 
 
 def with_ids(value: Any) -> Any:
@@ -147,6 +94,23 @@ def test_ids_beyond_the_numbers_of_javascript(scripts: Scripts) -> None:
     assert scripts.tried("exactJson('{')").startswith("SyntaxError")
 
 
+@pytest.mark.parametrize("what", NUMBERS)
+@pytest.mark.parametrize(
+    "given",
+    [("order", "likely"), ("order", "x"), ("detail", "true"), ("detail", "false"), ("detail", "1")],
+)
+def test_options_that_are_no_numbers(scripts: Scripts, what: What, given: tuple[str, str]) -> None:
+    """The page asks for the same as the server, and refuses the same."""
+    options = {"radius": "60", given[0]: given[1]}
+    try:
+        wanted: list[str] | str = list(asked_of(what, options, 1000).words)
+    except Problem as problem:
+        wanted = f"Problem: {problem.detail}"
+    query = "&".join(f"{name}={value}" for name, value in {"ref": "x", **options}.items())
+    words = "wordsOf(questionOf(what, optionsOf(query), questions).numbers)"
+    assert scripts.tried(words, what=what, query=query, questions=page._questions()) == wanted
+
+
 def test_numbers(scripts: Scripts) -> None:
     """Those that lie halfway between two others among them."""
     draws = random.Random(1)
@@ -161,7 +125,3 @@ def test_numbers(scripts: Scripts) -> None:
     ] + [(0, 0), (0, 2), (3, 4)]
     lengths = scripts.value("pairs.map(([x, y]) => hypotenuse(x, y))", pairs=pairs)
     assert lengths == pytest.approx([math.hypot(*pair) for pair in pairs], rel=3e-16, abs=0)
-    rows = [[draws.uniform(0, 100) for _ in range(size)] for size in (*range(1, 40), 129, 137, 300)]
-    starts = np.cumsum([0, *map(len, rows)])[:-1]
-    wanted = np.add.reduceat(np.concatenate(rows), starts)
-    assert scripts.value("rows.map(sumOf)", rows=rows) == wanted.tolist()

@@ -17,16 +17,14 @@ from conftest import TOP, Program
 from olr.asking.files import MapFiles
 from olr.confidence.confidence import Confidence
 from olr.confidence.contents import text_of as text_of_confidence
-from olr.confidence.judged import Judged
 from olr.confidence.likeness import Range
 from olr.model.fault import Fault
 from olr.model.objects import raw_line
 from olr.model.questions import NUMBERS, What
 from olr.model.reference import NEGATIVE, POSITIVE
 from olr.pages.alone.tables import tables
-from olr.pages.view.scene import fits, judgements_of
+from olr.pages.view.scene import fits
 from olr.serving import scene_texts
-from olr.serving.chosen import chosen_by
 from olr.serving.ground import FolderGround
 from olr.serving.judging import listing_of
 from olr.serving.queries import asked_of
@@ -38,13 +36,12 @@ MAKE = """
 cases.map((one) => {
   const read = ({ answer, fault }) => (answer === null ? fault : exactJson(answer));
   const [candidates, places, page, why] = [one.candidates, one.places, one.page, one.why].map(read);
-  const judgement = one.judgement && {
-    ...one.judgement,
-    places: one.judgement.places.map((place) => ({ ...place, place: places.places[place.rank - 1] })),
-  };
+  const { judging, note } = judgingBy(one.confidence, one.numbers);
+  const judgement = isFault(places) ? null : judged(places, judging);
   const fits = fitsSomewhere(places, page);
   const answers = { show: exactJson(one.show), candidates, places, page, why: fits ? null : why, judgement };
-  return { fits, scene: sceneOf({ ...one, ...answers, network, streets: Streets.of(network), tables }) };
+  const { confidence } = judging;
+  return { fits, scene: sceneOf({ ...one, ...answers, confidence, note, network, streets: Streets.of(network), tables }) };
 })
 """
 """Scenes of what the program answers, each with whether there is a place."""
@@ -121,8 +118,6 @@ class MapAsked(NamedTuple):
         task = SceneTask(judged_by, *answers, read["why"], True, map_name, None)
         answered = scene_texts._answered(task, self.ground.network.digest)
         task = task._replace(why=None) if fits(answered) else task
-        chosen = chosen_by(judged_by)
-        (judgement,) = judgements_of([answered], self.ground.network, chosen.judging)
         given = {
             "reference": text,
             "show": said.decode(),
@@ -131,40 +126,12 @@ class MapAsked(NamedTuple):
                 | {"fault": raw[what].fault}
                 for name, what in zip(("candidates", "page", "places", "why"), NUMBERS)
             },
-            "judgement": None if judgement is None else of_judgement(judgement),
-            "confidence": of_confidence(chosen.judging.confidence),
-            "note": chosen.note,
+            "confidence": json.loads(text_of_confidence(confidence or Confidence.default())),
             "numbers": judged_by.asked.numbers(),
             "mapName": map_name,
         }
         scene = json.loads(scene_texts.text_of(task, self.ground))
         return given, {"fits": task.why is None, "scene": with_texts(scene)}
-
-
-def of_judgement(judgement: Judged) -> Json:
-    """A judgement as the scripts have it: a place is known by its rank."""
-    return {
-        "places": [
-            {
-                "rank": one.rank,
-                "likely": one.likely,
-                "ends": one.ends,
-                "turnsBack": bool(one.turns_back),
-                "probability": one.probability,
-                "reasons": one.reasons,
-            }
-            for one in judgement.places
-        ],
-        "verdict": judgement.verdict,
-        "margin": judgement.margin,
-        "noneOfThese": judgement.none_of_these,
-        "isCutOff": judgement.is_cut_off,
-    }
-
-
-def of_confidence(confidence: Confidence | None) -> Any:
-    """A confidence as the scripts have it."""
-    return None if confidence is None else json.loads(text_of_confidence(confidence))
 
 
 def with_texts(scene: Json) -> Json:

@@ -3,10 +3,11 @@
 import importlib
 import pytest
 import subprocess
+import sys
 from pathlib import Path
 from typing import Any
 
-from conftest import TOP
+from conftest import TOP, Program
 
 
 @pytest.fixture
@@ -35,6 +36,14 @@ def test_a_run_without_an_end_is_a_flaw(trials: Any, tmp_path: Path) -> None:
     trial = trials.Trial(script(tmp_path, "while :; do :; done"), tmp_path)
     with pytest.raises(trials.GivenUp, match="no end after 1 s of a processor: words"):
         trial.run(["words"])
+
+
+def test_the_likely_order(program: Program) -> None:
+    """A short run of the script that works it out from the program's other answers."""
+    words = [str(TOP / "attacks/likely_order.py"), str(program.path), "--references", "200"]
+    ended = subprocess.run([sys.executable, *words], capture_output=True, text=True, check=False)
+    assert ended.returncode == 0, ended.stdout + ended.stderr
+    assert ended.stdout.endswith("220 passed, 0 failed\n")
 
 
 @pytest.mark.parametrize(

@@ -145,19 +145,17 @@ def feed_of(sender: Path, folder: Path) -> Feed:
     confidence = calibrated(folder, Drawing(TRIALS), ASKING, wanted)
     with ASKING.map_of(folder) as asked:
         answered = answered_by(asked, texts, ASKING)
-    found = answered.found
+    terms = answered.terms
     lengths = {line.id: line.length for line in (*road_map.lines, *other.lines)}
     are_right = [
         is_right(lengths, drawn[owner].path, matching.outer or ())
-        for owner, matching in zip(found.owners().tolist(), found.matchings)
+        for owner, matching in zip(terms.owners().tolist(), answered.matchings)
     ]
-    first = found.first()
-    told = confidence.of(found, answered.evidence)
-    sums = np.add.reduceat(
-        told.of_place, np.cumsum(found.sizes[found.sizes > 0]) - found.sizes[found.sizes > 0]
-    )
+    first = terms.first()
+    told = confidence.of(terms)
+    sums = np.add.reduceat(told.of_place, first)
     assert sums + told.of_none == pytest.approx(1)
-    right = right_places(found, are_right) == first
+    right = right_places(terms, are_right) == first
     return Feed(told.of_place[first].tolist(), right.tolist(), confidence)
 
 

@@ -1,10 +1,11 @@
 """`olr.Map` and `olr.decode` answer what the program answers."""
 
-import tomllib
-
+import json
 import os
 import pickle
 import pytest
+import tomllib
+from collections.abc import Mapping
 from pathlib import Path
 from typing import Any
 
@@ -13,7 +14,7 @@ from asking import as_json, batch_of, draw_map, draw_references, said
 from conftest import REFERENCE, TOP, Program, by_default
 from olr.asking.processes import AHEAD
 from olr.asking.threaded import PIECE_BYTES
-from olr.model.questions import NUMBERS, TOLERANCES, What
+from olr.model.questions import LIST, NUMBERS, TOLERANCES, What, all_words, options_for
 
 DATA = TOP / "crates/olr_conformance/data"
 REFERENCES = 300
@@ -42,20 +43,56 @@ def plain(answer: Any) -> Any:
     return answer.text if isinstance(answer, olr.Fault) else as_json(answer)
 
 
-@pytest.mark.parametrize("what", REQUESTS)
+@pytest.mark.parametrize(
+    "what, settings",
+    [
+        *((what, {}) for what in REQUESTS),
+        ("match", {"detail": True}),
+        ("candidates", {"detail": True}),
+        ("places", {"order": "likely"}),
+        ("places", LIST),
+    ],
+)
 def test_many_references_in_one_go(
-    what: What, folder: Path, references: list[str], program: Program, tmp_path: Path
+    what: What,
+    settings: Mapping[str, Any],
+    folder: Path,
+    references: list[str],
+    program: Program,
+    tmp_path: Path,
 ) -> None:
     texts = references[: REFERENCES if what == "match" else 150]
     records = tmp_path / "records"
     records.write_text("".join(f"x\t{text}\n" for text in texts), encoding="utf-8")
-    expected = batch_of(program, what, records, by_default("--map", folder))
+    words = by_default("--map", folder, *all_words(settings))
+    expected = batch_of(program, what, records, words)
     with olr.Map.of_folder(folder, program=program.path) as drawn:
-        answers = list(drawn.answers(what, texts))
+        answers = list(drawn.answers(what, texts, **settings))
     assert len(answers) == len(texts)
     assert [plain(answer) for answer in answers] == expected
     faults = {answer.name for answer in answers if isinstance(answer, olr.Fault)}
     assert {"NotBase64", "Empty", "BadLength"} <= faults
+
+
+@pytest.mark.parametrize("text", [REFERENCE, ROADWORKS, KIOSK])
+@pytest.mark.parametrize("what", NUMBERS)
+def test_json_as_it_was(what: What, text: str, program: Program) -> None:
+    """Of a line and of a point along a line, byte by byte, with each option and without."""
+    names = options_for(what)
+    asked: list[dict[str, Any]] = [
+        {},
+        *({name: LIST[name]} for name in names),
+        {name: LIST[name] for name in names},
+    ]
+    with olr.Map.of_folder(TOP / "examples", program=program.path) as town:
+        for settings in asked:
+            raw = town.raw_answer(what, text, **settings)
+            (answer,) = town.answers(what, [text], **settings)
+            assert not isinstance(answer, olr.Fault)
+            made = json.dumps(answer.to_dict(), separators=(",", ":"))
+            assert made.encode() == raw and raw.count(b'"parts"') == raw.count(b'"sectors"')
+            assert (b'"parts"' in raw) == bool(settings.get("detail"))
+            assert (b'"cut"' in raw) == (b'"rank"' in raw) == ("order" in settings)
 
 
 def test_one_at_a_time_and_in_one_go(folder: Path, references: list[str], program: Program) -> None:

@@ -19,7 +19,7 @@ from olr.asking.processes import Processes
 from olr.asking.threaded import Process
 from olr.content import Content, digest_of
 from olr.model.profiles import DEFAULT_PROFILE, tolerances_of
-from olr.model.questions import NUMBERS, TOLERANCES, Number
+from olr.model.questions import NUMBERS, TOLERANCES, Number, options_for
 
 EXAMPLES = TOP / "examples"
 BREAKDOWN = "CwVF+yN2yhpnBAFdAAsaFg=="
@@ -197,9 +197,11 @@ def test_numbers_that_arent_there() -> None:
         with pytest.raises(TypeError, match="unexpected keyword argument 'radios'"):
             call("x", "y", radios=5) if call is olr.Map else call("x", radios=5)
     town = olr.Map.of_folder(EXAMPLES, program="none")
-    with pytest.raises(TypeError, match="places has no number page: it has apart, within, look"):
+    with pytest.raises(
+        TypeError, match="places has no page: it has apart, within, look, most, order, detail"
+    ):
         town.answers("places", [], page=3)
-    with pytest.raises(TypeError, match="candidates has no number page: it has none"):
+    with pytest.raises(TypeError, match="candidates has no page: it has detail"):
         town.answers("candidates", [], page=3)
     with pytest.raises(TypeError, match="unexpected keyword argument 'page'"):
         town.places(REFERENCE, page=3)  # type: ignore[call-arg]
@@ -221,7 +223,28 @@ def test_defaults() -> None:
         parameters = inspect.signature(getattr(olr.Map, what)).parameters
         own = {name: number.default for name, number in of_question.items()}
         assert {name: parameters[name].default for name in own} == own
-        assert parameters.keys() - own.keys() <= {"self", "ref", "after"}
+        others = {name: option.default for name, option in options_for(what).items()}
+        assert {name: parameters[name].default for name in others} == others
+        assert parameters.keys() - own.keys() - others.keys() <= {"self", "ref", "after"}
+
+
+def test_options() -> None:
+    """What isn't one is refused before the program is asked, by each call."""
+    town = olr.Map.of_folder(EXAMPLES, program="none")
+    for what in NUMBERS:
+        for name, option in options_for(what).items():
+            wrongs: list[Any] = [1, None, b"total", np.bool_(True), "other"]
+            for wrong in wrongs:
+                is_word = bool(option.words) and isinstance(wrong, str)
+                calls: list[Callable[..., object]] = [town.raw_answer, town.answers]
+                for call in calls:
+                    error = ValueError if is_word else TypeError
+                    with pytest.raises(error, match=f"{name} is .* or .*, not "):
+                        call(what, REFERENCE, **{name: wrong})
+    with pytest.raises(TypeError, match="why has no detail: it has nearest"):
+        town.answers("why", [], detail=True)
+    with pytest.raises(TypeError, match="unexpected keyword argument 'order'"):
+        town.match(REFERENCE, order="likely")  # type: ignore[call-arg]
 
 
 def processes_of(town: olr.Map) -> list[Process]:

@@ -31,7 +31,7 @@ from olr.comparing.places import Limits
 from olr.comparing.summary import Summary
 from olr.confidence.confidence import DEFAULT
 from olr.confidence.judged import Judging
-from olr.likely.order import Shown
+from olr.confidence.shown import Shown
 from olr.messages import message_file
 from olr.messages.message import Message, Reading
 from olr.messages.reading import messages_of

@@ -323,7 +323,7 @@ def test_a_point_at_either_end_of_its_line() -> None:
         route = Pieces([Piece(701, 0, length)])
         matching = Matching("", (Leg(0, 0),), points, route, 0, None, None, place, place)
         answer = Places(1, (PlaceOfReference(0, matching, 1),), "unique")
-        _, (found,) = likeliest_places([answer], judged([answer], [None], network), network)
+        _, (found,) = likeliest_places([answer], judged([answer]), network)
         assert isinstance(found, Spot)
         assert found.behind.tolist() == network.path([decimetre]).tolist()
         assert found.route.tolist() == network.path(route).tolist()

@@ -10,12 +10,13 @@ from pathlib import Path
 from typing import Any
 
 import olr
+from confidences import made_terms
 from conftest import REFERENCE, TOP, Program
 from olr.arrays import Floats
 from olr.confidence.calibrating import level_of
 from olr.confidence.confidence import Confidence
 from olr.confidence.contents import text_of
-from olr.confidence.feed import Answered, statistics_of
+from olr.confidence.feed import statistics_of
 from olr.confidence.fitting import NONE, Checked, Trial, fitted, shift_of, shifted
 from olr.confidence.judged import Judging, judged
 from olr.confidence.likeness import RIDGE, Likeness, Range, alike, range_of
@@ -28,14 +29,10 @@ from olr.confidence.weights import (
     differences_of,
     probabilities,
 )
+from olr.confidence.shown import Shown
 from olr.errors import ToolError
-from olr.likely.evidence import Evidence, Fit
-from olr.likely.listed import Listed
-from olr.likely.long_list import LIST
-from olr.likely.order import Shown
 from olr.model.profiles import FEED, tolerances_of
-from olr.model.questions import TOLERANCES
-from olr.model.reference import read_reference
+from olr.model.questions import LIST, TOLERANCES
 from test_extras import run_without
 
 EXAMPLES = TOP / "examples"
@@ -70,75 +67,43 @@ def test_probabilities_by_hand() -> None:
 
 
 def test_what_weights_count() -> None:
-    """An answer with two places of three points, of which the second is the likelier one; one without; and one with a place of two points
+    """An answer with two places of three points, of which the second one costs 20 points more; one without; and one with a place of two points
     on one line, which is a tenth longer than is told."""
-    fit = Fit(
-        counts=np.array([3, 3, 2]),
-        from_end=np.zeros(8),
-        point_penalty=np.zeros(3, int),
-        leg_penalty=np.zeros(3, int),
-        turns_back=np.array([False, True, False]),
-        lines=np.array([4, 9, 1]),
-    )
-    evidence = Evidence(
-        fit=fit,
+    terms = made_terms(
+        [2, 0, 1],
+        [3, 3, 2],
+        costs=[300, 900, 150],
+        turns_back=[True, False, False],
+        lines=[9, 4, 1],
         distance=np.arange(1.0, 9.0),
-        sectors=np.array([0, 0, 0, 1, 0, 2, 0, 0.0]),
-        classes=np.zeros(8, int),
-        other_form=np.zeros(8, np.bool_),
-        told=np.full(5, 500.0),
-        length=np.array([490, 490, 490, 490, 550.0]),
+        sectors=[0, 0, 0, 1, 0, 2, 0, 0],
+        length=[490, 490, 490, 490, 550.0],
     )
-    found = differences_of(Listed(np.array([2, 0, 1]), [], fit, np.array([30, 10, 5.0])), evidence)
+    found = differences_of(terms)
     assert found.sizes.tolist() == [2, 1]
-    expected = [[6, 0, 0, 20, 0], [15, 3, 0, 0, 1], [15, 0, 10, 0, 0]]
+    expected = [[6, 0, 0, 0, 1], [15, 3, 0, 20, 0], [15, 0, 10, 0, 0]]
     assert found.of_place == pytest.approx(np.array(expected, dtype=float))
     assert found.of_none == pytest.approx(np.array([[1, 1, math.log(9)], [1, 0, 0]]))
 
 
-def found_places(sizes: list[int], costs: Floats) -> Listed:
-    """Places of two points on one line, which differ in nothing but their likely costs."""
-    count = len(costs)
-    fit = Fit(
-        counts=np.full(count, 2),
-        from_end=np.zeros(2 * count),
-        point_penalty=np.zeros(count, int),
-        leg_penalty=np.zeros(count, int),
-        turns_back=np.zeros(count, np.bool_),
-        lines=np.ones(count, int),
-    )
-    return Listed(np.array(sizes), [], fit, costs)
-
-
 def test_the_right_place_of_an_answer() -> None:
-    """The likeliest of those that are right, of equal ones the first. An answer without a place has none."""
-    found = found_places([3, 1, 0, 2], np.array([5, 1, 3, 2, 4, 4.0]))
-    right = right_places(found, [True, False, True, False, True, True])
-    assert right.tolist() == [2, NONE, 4]
+    """The first of those that are right. An answer without a place has none."""
+    terms = made_terms([3, 1, 0, 2], [2] * 6)
+    right = right_places(terms, [False, True, True, False, True, True])
+    assert right.tolist() == [1, NONE, 4]
 
 
 def part_of(count: int, right: int) -> Part:
     """A part with so many answers of one place, of which so many are right."""
-    found = found_places([1] * count, np.zeros(count))
-    evidence = Evidence(
-        fit=found.fit,
-        distance=np.zeros(2 * count),
-        sectors=np.zeros(2 * count),
-        classes=np.zeros(2 * count, int),
-        other_form=np.zeros(2 * count, np.bool_),
-        told=np.full(count, 500.0),
-        length=np.full(count, 470.0),
-    )
     numbers = np.arange(count)
     are_right = np.where(numbers < right, numbers, NONE)
-    return Part(0.0, 0.0, Answered([None] * count, found, evidence), are_right)
+    return Part(0.0, 0.0, made_terms([1] * count, [2] * count), are_right)
 
 
 def test_what_is_seen_of_answers_without_a_place() -> None:
     """That none has one, and nothing else."""
-    none = part_of(0, 0).answered.evidence
-    answered = Answered([None] * 3, found_places([0, 0, 0], np.zeros(0)), none)
-    without, *others = statistics_of(answered, np.array(list(ROUND.values()))).values()
+    terms = made_terms([0, 0, 0], [])
+    without, *others = statistics_of(terms, np.array(list(ROUND.values()))).values()
     assert (without, set(others)) == (1, {0})
 
 
@@ -377,11 +342,10 @@ def test_judged_answers(tmp_path: Path, program: Program) -> None:
         texts = [ROADWORKS, KIOSK, "?", REFERENCE]
         answers: list[Any] = list(town.answers("places", texts, **LIST))
         answers[3] = town.match(REFERENCE)
-        references = [read_reference(text) for text in texts]
         judging = Judging(confidence_of(), Shown(within=14_620, most=100))
-        roads, kiosk, fault, page = judged(answers, references, town.network(), judging)
-        bare = judged(answers, [None] * 4, town.network(), judging)[0]
-        few = judged(answers, references, town.network(), Judging(confidence_of(), Shown(30, 1)))[0]
+        roads, kiosk, fault, page = judged(answers, judging)
+        bare = judged(answers)[0]
+        few = judged(answers, Judging(confidence_of(), Shown(30, 1)))[0]
     assert fault is None is page
     assert roads is not None and bare is not None and few is not None and kiosk is not None
     probable = [one.probability for one in roads.places]
@@ -399,18 +363,27 @@ def test_judged_answers(tmp_path: Path, program: Program) -> None:
 
 
 def test_a_table(tmp_path: Path, program: Program) -> None:
-    """Without references or a confidence the columns are there, and empty."""
+    """Without a confidence its columns are there, and empty; so are those of what wasn't asked for."""
+    sure = confidence_of()
     with olr.Map(town_without_bans(tmp_path), program=program.path) as town:
         answers: list[Any] = list(town.answers("places", [ROADWORKS], **LIST))
         network = town.network()
-        made: dict[str, Any] = {"references": [ROADWORKS], "confidence": confidence_of()}
-        full = olr.to_geodataframe(answers, network, **made)
-        shown = olr.to_geodataframe(answers, network, **made, most=1)
+        full = olr.to_geodataframe(answers, network, confidence=sure)
+        shown = olr.to_geodataframe(answers, network, confidence=sure, most=1)
         bare = olr.to_geodataframe(answers, network)
-        with pytest.raises(TypeError, match="takes many references"):
-            olr.to_geodataframe(answers, network, references=ROADWORKS)
-        with pytest.raises(ValueError):
-            olr.to_geodataframe(answers, network, references=[])
+        others = [
+            town.places(ROADWORKS),
+            town.places(ROADWORKS, order="likely"),
+            town.places(ROADWORKS, detail=True),
+        ]
+        by_total, likely, in_detail = (olr.to_geodataframe([it], network) for it in others)
+        kiosk = olr.to_geodataframe([town.places(KIOSK)], network)
+        for one in others:
+            with pytest.raises(
+                ValueError,
+                match="ask for them with within=14620, most=100, order='likely', detail=True",
+            ):
+                olr.to_geodataframe([one], network, confidence=sure)
     sums = full["probability"].sum() + full["none_of_these"].sum()
     assert sums == pytest.approx(1, abs=0.002) and full["none_of_these"].count() == 1
     assert full["likely"].tolist() == list(range(1, len(full) + 1))
@@ -418,6 +391,13 @@ def test_a_table(tmp_path: Path, program: Program) -> None:
     assert bare["likely"].tolist() == full["likely"].tolist()
     empty = ["probability", "none_of_these", "map_differs", "map_differs_low", "map_differs_high"]
     assert bare[empty].isna().all().all() and bare["ends_m"].notna().all()
+    assert by_total["rank"].tolist() == [1, 2] and likely["rank"].tolist() == [2, 1]
+    assert in_detail["cursor"].tolist() == by_total["cursor"].tolist()
+    of_detail = ["ends_m", "turns_back"]
+    for table in (by_total, kiosk):
+        assert table[["likely", *of_detail]].isna().all().all()
+    assert likely["likely"].tolist() == [1, 2] and likely[of_detail].isna().all().all()
+    assert in_detail["likely"].isna().all() and in_detail[of_detail].notna().all().all()
 
 
 def test_what_works_without_scipy() -> None:

@@ -21,14 +21,13 @@ from olr.comparing.columns import CHANGES
 from olr.confidence.expected import Expected
 from olr.confidence.likeness import Range
 from olr.confidence.sentences import probability_text
-from olr.likely.long_list import LIST
 from olr.matching.columns import ANSWERS
 from olr.matching.tables import Columns
 from olr.model.answers import AnswerOrFault, Places
 from olr.model.fault import Fault
 from olr.model.map_folder import read_map
 from olr.model.profiles import FEED, PROFILES
-from olr.model.questions import NUMBERS, What
+from olr.model.questions import LIST, NUMBERS, What
 from olr.regions.making import make_store_of_folder
 from olr.tools import run
 from olr.trials.changing import Spreads, changed_points
@@ -306,7 +305,6 @@ def test_python(case: Case, program: Program) -> None:
             keys=list(case.texts),
             candidates=[one if isinstance(one, olr.Candidates) else None for one in counted],
             confidence=olr.Confidence.of_file(case.confidence),
-            references=texts,
             within=SHOWN["within"],
             most=SHOWN["most"],
         )
@@ -411,14 +409,14 @@ def test_locate_by_default(usual: Usual) -> None:
 @pytest.mark.parametrize("what", ["match", "places"])
 def test_tables_by_default(what: What, usual: Usual) -> None:
     """All rows of a table of answers, and all pages of references."""
-    texts, long = list(usual.texts.values()), LIST if what == "places" else {}
+    texts = list(usual.texts.values())
+    long: Mapping[str, Any] = LIST if what == "places" else {}
     with olr.Map.of_folder(EXAMPLES) as town:
         table = olr.to_geodataframe(
             [one for one in town.answers(what, texts, **long) if is_located(one)],
             town.network(),
             keys=list(usual.texts),
             confidence=olr.Confidence.default() if what == "places" else None,
-            references=texts,
             within=NUMBERS["places"]["within"].default if what == "places" else None,
         )
     rows = by_keys(table_rows(table))
@@ -469,7 +467,8 @@ def test_lines_by_default(
     asked = [] if what == "match" else [f"--{what}"]
     messages = EXAMPLES / "messages.tsv"
     assert run(list(map(str, ["run", messages, *words, *asked]))) == 0
-    query = "&".join(f"{name}={value}" for name, value in LIST.items()) if what == "places" else ""
+    long = LIST if what == "places" else {}
+    query = "&".join(f"{name}={str(value).lower()}" for name, value in long.items())
     body = messages.read_text()
     reply = usual_server.get(f"/batch/{what}?{query}", "POST", body, Content_Type="text/plain")
     assert reply.body == lines.read_bytes()

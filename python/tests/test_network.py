@@ -188,7 +188,8 @@ def test_tables(program: Program, tmp_path: Path, suffix: str) -> None:
         examples / "nodes.csv", examples / "lines.csv", program=program.path, profile="program"
     ) as town:
         table = olr.to_geodataframe(town.matches(texts), network, keys=["a", "b", "c", "d"])
-        places = olr.to_geodataframe([town.places(ROADWORKS)], network, part="inner")
+        likely = town.places(ROADWORKS, order="likely")
+        places = olr.to_geodataframe([likely], network, part="inner")
         kiosk = olr.to_geodataframe([town.match(KIOSK)], network)
         with pytest.raises(ValueError, match="longer"):
             olr.to_geodataframe([town.match(KIOSK)], network, keys=[])
@@ -199,7 +200,7 @@ def test_tables(program: Program, tmp_path: Path, suffix: str) -> None:
     assert table["total"].dropna().tolist() == [8, 64, 71]
     assert table["fault"].tolist()[3] == "BadLength 12"
     assert table.geometry.isna().tolist() == [False, False, False, True, True]
-    # The likeliest place is the second one of the program.
+    # The likeliest place is the second one by totals.
     assert places[["key", "gap", "margin"]].values.tolist() == [[0, 7, 7], [0, 0, 7]]
     point = kiosk.geometry[0]
     assert point.geom_type == "Point"

@@ -16,11 +16,10 @@ from xml.etree import ElementTree
 import olr
 from conftest import OF_PROGRAM, TOP, Program
 from olr.client.map_client import opened
-from olr.likely.long_list import LIST
 from olr.matching.columns import ANSWERS
 from olr.matching.kept_columns import kept_columns
 from olr.model.answers import about
-from olr.model.questions import NUMBERS
+from olr.model.questions import LIST, NUMBERS
 from olr.regions.making import make_store_of_folder
 from olr.tools import run
 
@@ -140,11 +139,10 @@ def test_the_likeliest_place_and_the_first_matching() -> None:
     town = olr.Map(EXAMPLES / "nodes.csv", EXAMPLES / "lines.csv", profile="feed")
     found = olr.locate(pandas.Series(texts), map=town)
     table = olr.to_geodataframe(
-        town.answers("places", texts, **LIST),  # type: ignore[arg-type]
+        (one for one in town.answers("places", texts, **LIST) if isinstance(one, olr.Places)),
         town.network(),
         candidates=town.answers("candidates", texts),
         confidence=olr.Confidence.default(),
-        references=texts,
         within=NUMBERS["places"]["within"].default,
     )
     assert len(table) > len(texts) and table["rank"][table["key"] == 2].tolist()[0] == 2

@@ -139,6 +139,6 @@ def test_the_direction_of_travel_at_a_point(at: int, lead: tuple[int, int], tmp_
     place = Place(7, at)
     one = Matching("0:1", (Leg(2000, 0),), (point, point), route, 0, earliest=place, latest=place)
     places = [Places(1, (PlaceOfReference(0, one, 1),), "unique")]
-    _, (shape,) = likeliest_places(places, judged(places, [None], network), network)
+    _, (shape,) = likeliest_places(places, judged(places), network)
     assert isinstance(shape, Spot)
     assert (np.diff(shape.behind, axis=0)[0] * 1e7).round().tolist() == [10 * it for it in lead]

@@ -15,7 +15,7 @@ from asking import as_json, said
 from conftest import REFERENCE, Program
 from feeds import data_of
 from olr.model.profiles import DEFAULT_PROFILE, FEED, PROFILES, PROGRAM, tolerances_of
-from olr.model.questions import TOLERANCES
+from olr.model.questions import LIST, TOLERANCES, all_words
 from olr.regions.making import make_store_of_folder
 from profiled import DEFAULTS, EXAMPLES, LACKING, MESSAGES, texts_of, tools, words_of
 from servers import Server, expected_of, path_of, serving
@@ -218,6 +218,8 @@ def test_scenes(server: Server, program: Program, monkeypatch: pytest.MonkeyPatc
         answer = said(program, "places", REFERENCE, *words)
         totals = [entry["total"] for entry in scene["entries"] if entry["members"]]
         assert [place["matching"]["total"] for place in answer["places"]] == totals
+        words += all_words(LIST)
+        answer = said(program, "places", REFERENCE, *words)
         assert shown_by(program, scene["command"], EXAMPLES, monkeypatch) == answer
 
 

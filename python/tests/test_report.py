@@ -12,7 +12,7 @@ from collections.abc import Mapping
 from pathlib import Path
 from typing import Any
 
-from confidences import FEED, LONG_LIST, OF_NONE, PlainOrder, write_confidence
+from confidences import FEED, OF_NONE, write_confidence
 from conftest import OF_PROGRAM, REFERENCE, TOP, Program
 from exact_paths import LineGraph, drawn_references
 from feeds import MARKUP, Feed, data_of, jq, make_feed, tables_of
@@ -52,15 +52,20 @@ def data(feed: Feed, program: Program) -> Any:
 
 @pytest.fixture(scope="module")
 def listed(feed: Feed, program: Program) -> dict[int, Any]:
-    """The answers to its references by their records, with long lists of places; None for a fault."""
-    records = jq(program, feed, "places", ".", *LONG_LIST, *LOOK)
-    return {one["record"]: one["answer"] for one in records}
+    """The answers to its references by their records, with all places; None for a fault."""
+    return answers(feed, program, "--within", 14_620, "--most", 100, *LOOK)
 
 
 @pytest.fixture(scope="module")
-def plain(feed: Feed) -> PlainOrder:
-    """The likely order on its map."""
-    return PlainOrder(feed.folder)
+def shown(feed: Feed, program: Program) -> dict[int, Any]:
+    """The same with those places that the program itself shows."""
+    return answers(feed, program, *NUMBERS)
+
+
+def answers(feed: Feed, program: Program, *words: object) -> dict[int, Any]:
+    """What the program answers in the likely order."""
+    records = jq(program, feed, "places", ".", *words, "--order", "likely", "--detail")
+    return {one["record"]: one["answer"] for one in records}
 
 
 def sure(feed: Feed) -> list[object]:
@@ -118,16 +123,14 @@ def test_verdicts_and_faults(feed: Feed, data: Any, program: Program) -> None:
     assert meanings["NotBase64"] == "the text isn't standard base64"
 
 
-def test_penalties(
-    feed: Feed, data: Any, program: Program, listed: dict[int, Any], plain: PlainOrder
-) -> None:
+def test_penalties(feed: Feed, data: Any, program: Program, shown: dict[int, Any]) -> None:
     """Margins are the program's; the others are of the places that are shown, in the likely order."""
     tables = tables_of(data)
     query = '[.[].answer // empty | select(.verdict != "none") | .margin]'
-    shown = [plain.shown(one["places"], WITHIN) for one in listed.values() if one and one["places"]]
-    others = [place for places in shown for place in places if place["rank"] > 1]
+    found = [one["places"] for one in shown.values() if one and one["places"]]
+    others = [place for places in found for place in places if place["rank"] > 1]
     for caption, numbers in (
-        ("Totals of likeliest places", [places[0]["matching"]["total"] for places in shown]),
+        ("Totals of likeliest places", [places[0]["matching"]["total"] for places in found]),
         ("Gaps of the other places that are shown", [place["gap"] for place in others]),
         ("Margins, the gap of the second best place", jq(program, feed, "places", query, *NUMBERS)),
     ):
@@ -138,14 +141,14 @@ def test_penalties(
         if None in numbers:
             expected["none"] = numbers.count(None)
         assert tables[caption] == expected
-    assert any(places[0]["rank"] > 1 for places in shown)
+    assert any(places[0]["rank"] > 1 for places in found)
 
 
 def test_how_many_are_right(
     feed: Feed,
     data: Any,
     listed: dict[int, Any],
-    plain: PlainOrder,
+    shown: dict[int, Any],
     tmp_path: Path,
     capsys: pytest.CaptureFixture[str],
 ) -> None:
@@ -170,8 +173,9 @@ def test_how_many_are_right(
     table = tables_of(data)["Likeliest places by probability"]
     assert table == {**expected, "none": len(found) - len(lines)}
     assert list(table) == [*expected, "none"]
-    back = sum(plain.turns_back(plain.shown(one["places"], WITHIN)[0]["matching"]) for one in found)
-    cut_off = sum(plain.is_cut_off(one, WITHIN) for one in found)
+    of_shown = [one for one in shown.values() if one and one["places"]]
+    back = sum(one["places"][0]["matching"]["turns_back"] for one in of_shown)
+    cut_off = sum(one["cut"] for one in of_shown)
     assert back > 5 and cut_off > 1
     remarks = [
         f"turn back: {back} likeliest places",
@@ -241,7 +245,7 @@ def test_why(feed: Feed, data: Any, program: Program) -> None:
 
 
 def test_rows(
-    feed: Feed, data: Any, program: Program, listed: dict[int, Any], plain: PlainOrder
+    feed: Feed, data: Any, program: Program, listed: dict[int, Any], shown: dict[int, Any]
 ) -> None:
     """Each record has a row, what isn't unique comes first, and numbers are those of the answer's likeliest place."""
     asked = {one["record"]: one for one in jq(program, feed, "places", ".", *NUMBERS)}
@@ -265,13 +269,13 @@ def test_rows(
             assert row["cause"] in ("point", "leg", "chain") and row["reason"].endswith(".")
             continue
         places = listed[row["record"]]["places"]
-        shown = plain.shown(places, WITHIN)
-        first = shown[0]["matching"]
+        there = shown[row["record"]]["places"]
+        first = there[0]["matching"]
         assert (row["total"], row["margin"]) == (first["total"], answer["margin"])
         entries = [entry for entry in scene["entries"] if entry["members"]]
-        cursors = [place["matching"]["cursor"] for place in shown]
+        cursors = [place["matching"]["cursor"] for place in there]
         assert [entry["cursor"] for entry in entries] == cursors
-        assert row.get("turns_back") == ("turns back" if plain.turns_back(first) else None)
+        assert row.get("turns_back") == ("turns back" if first["turns_back"] else None)
         if not is_line(places):
             assert "probability" not in row and "none_of_these" not in row
             assert not any(entry["probability"] for entry in entries)

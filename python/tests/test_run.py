@@ -9,6 +9,7 @@ from collections.abc import Iterator
 from pathlib import Path
 
 from conftest import ASKED_WITH_PROGRAM, OF_PROGRAM, Program
+from olr.model.questions import LIST, all_words
 from olr.running import cluster
 from olr.tools import run
 from region_maps import Drawing, hostile_map, hostile_text
@@ -174,7 +175,7 @@ def test_all_questions_on_two_maps(
             assert run(list(map(str, words))) == 0, capfd.readouterr().err
             command = [runs.program.path, "batch", what, "--map", folder, *options]
             command += ["--input", messages]
-            command += ["--within", 14_620, "--most", 100] if what == "places" else []
+            command += all_words(LIST) if what == "places" else []
             ended = subprocess.run(list(map(str, command)), capture_output=True, check=True)
             is_same = joined.read_bytes() == ended.stdout
             assert ended.stdout.count(b"\n") == 120 and is_same

@@ -9,6 +9,7 @@ from pathlib import Path
 from asking import draw_map
 from bad_programs import bad_program, starts
 from conftest import Program
+from olr.model.questions import LIST, all_words
 from olr.running.answering import GroupsFailed, answer_groups
 from olr.running.asked_map import AskedMap
 from olr.running.kept import Kept
@@ -24,8 +25,8 @@ def test_all_answers(runs: Runs, what: str) -> None:
     words += [] if what == "match" else [f"--{what}"]
     ended = runs.run(*words, workers=3)
     assert (ended.status, ended.stderr) == (0, "")
-    numbers = ["--within", 14620, "--most", 100] if what == "places" else []
-    assert runs.joined.read_bytes() == runs.expected(*numbers, what=what)
+    options = all_words(LIST) if what == "places" else []
+    assert runs.joined.read_bytes() == runs.expected(*options, what=what)
     assert len(runs.parts()) > 10 and os.listdir(runs.scratch) == []
 
 

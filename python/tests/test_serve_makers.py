@@ -79,7 +79,7 @@ def map(drawn: Path) -> MapVersion:
 
 def task_of(answer: bytes = PAGE, candidates: "bytes | Fault" = Fault("Empty")) -> FeaturesTask:
     """GeoJSON of an answer to `match`."""
-    return FeaturesTask(JudgedBy(asked_of("match", {}, 10), None), "x", answer, candidates)
+    return FeaturesTask(JudgedBy(asked_of("match", {}, 10), None), answer, candidates)
 
 
 def with_makers(run: "Callable[[Makers], Any]") -> Any:

@@ -11,7 +11,7 @@ from asking import draw_map, draw_references
 from conftest import REFERENCE, TOP, Program, Tools
 from olr.asking.records import Answered
 from olr.errors import ProgramEnded
-from olr.model.questions import NUMBERS
+from olr.model.questions import LIST, NUMBERS, OPTIONS, What, options_for
 from olr.serving.feature_texts import lines_of
 from olr.serving.features import OF_LINES
 from olr.serving.limits import MIB
@@ -71,6 +71,36 @@ def test_one_reference(what: str, server: Server, texts: list[str]) -> None:
             found = posted(server, f"/{what}", {"ref": text, **options}, **fields)
             assert (found.status, found.body) == (expected.status, expected.body), text
             assert found.headers["content-type"] == expected.headers["content-type"]
+
+
+@pytest.mark.parametrize("what", NUMBERS)
+def test_options_that_are_no_numbers(
+    what: What, server: Server, program: Program, drawn: Path, texts: list[str]
+) -> None:
+    """Each address of a question that has them gives the program's answer, and others refuse them."""
+    options: dict[str, Any] = {name: LIST[name] for name in options_for(what)}
+    in_url = {name: str(value).lower() for name, value in options.items()}
+    body = "".join(f"{text}\n" for text in texts[:9]).encode()
+    query = "&".join(f"{name}={value}" for name, value in in_url.items())
+    lines = server.get(f"/batch/{what}?{query}", "POST", body, Content_Type="text/plain").body
+    with olr.Map(drawn, program=program.path) as town:
+        for text, line in zip(texts, map(json.loads, lines.splitlines())):
+            if line["fault"] is not None:
+                continue
+            raw = town.raw_answer(what, text, **options)
+            assert line["answer"] == json.loads(raw)
+            assert server.get(path_of(what, text, **in_url)).body == raw
+            assert posted(server, f"/{what}", {"ref": text, **options}).body == raw
+    for path in (what, "scene"):
+        for name, option in OPTIONS.items():
+            status, title, detail = server.get(path_of(path, texts[0], **{name: "x"})).problem()
+            assert (status, title) == (400, "BadRequest")
+            values = " or ".join(option.words or ("false", "true"))
+            is_there = path == what and name in options
+            said = f"{name} is {values}" if is_there else f"'{name}' is no option of /"
+            assert detail.startswith(said)
+    reply = server.get("/rows?order=total", "POST", b"x\n", Content_Type="text/plain")
+    assert reply.problem()[0] == 400
 
 
 def test_a_page_behind_a_cursor(server: Server, texts: list[str]) -> None:
@@ -153,6 +183,7 @@ def test_answers_that_are_no_features(what: str, server: Server, texts: list[str
         ({"ref": "x", "radius": "60"}, "'radius' is a whole number"),
         ({"ref": "x", "radius": 6.0}, "'radius' is a whole number"),
         ({"ref": "x", "radius": True}, "'radius' is a whole number"),
+        ({"ref": "x", "detail": 1}, "'detail' is true or false"),
         ({"ref": "x", "radius": -1}, "radius is a whole number of metres"),
         ({"ref": "x", "radus": 60}, "'radus' is no option of /match: it has ref, after"),
         ({"ref": "x", "look": 60}, "'look' is no option of /match"),

@@ -306,7 +306,7 @@ IN_PYTHON = [
     Slip("town.matches(REFERENCE)", "not one text", "ask match about one"),
     Slip("town.matches(TABLE)", "not a table", "give one of its columns"),
     Slip("town.answers('place', [REFERENCE])", "'place' is no question", "ask candidates, match"),
-    Slip("town.answers('places', [REFERENCE], page=3)", "no number page", "it has apart, within"),
+    Slip("town.answers('places', [REFERENCE], page=3)", "has no page", "it has apart, within"),
     Slip("olr.to_geodataframe(town.match(REFERENCE), town.network())", "not one", "give a list"),
     Slip(
         "olr.to_geodataframe([], 'town')", "not str", "the network of a map, such as town.network()"

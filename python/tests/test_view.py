@@ -219,7 +219,7 @@ def test_the_command_lists_what_is_shown(
     answer = json.loads(program.run(*words, "--format", "json").stdout)
     listed = [place["matching"]["cursor"] for place in answer["places"]]
     assert olr_word == "olr" and len(listed) == 2
-    assert [entry["cursor"] for entry in scene["entries"]] == listed[::-1]
+    assert [entry["cursor"] for entry in scene["entries"]] == listed
 
 
 @pytest.mark.parametrize(

@@ -31,7 +31,7 @@ class UnknownWords(ProgramEnded):
 
 
 class Asked(NamedTuple):
-    """What is asked about references: a question, with the words of its tolerances and other numbers."""
+    """What is asked about references: a question, with the words of its tolerances, other numbers and options."""
 
     what: What
     words: tuple[str, ...] = ()
@@ -42,8 +42,8 @@ class Asked(NamedTuple):
 
     def numbers(self) -> dict[str, int]:
         """Its tolerances and numbers by their names."""
-        pairs = zip(self.words[::2], self.words[1::2])
-        return {name.removeprefix("--"): int(value) for name, value in pairs}
+        pairs = zip(self.words, self.words[1:])
+        return {name.removeprefix("--"): int(value) for name, value in pairs if value.isdigit()}
 
     def at_once(self, most: int) -> int:
         """About how many references it is asked at once, `most` at most: fewer, and LEAST_AT_ONCE at least, if their answers might have more

@@ -28,6 +28,7 @@ from olr.model.profiles import (
     with_tolerances,
 )
 from olr.model.questions import (
+    Setting,
     What,
     all_tolerances,
     all_words,
@@ -55,7 +56,8 @@ class Map:
     A question raises `Fault` where there is no answer, `MapRefused` where `olr` doesn't accept the files or they have changed since
     they were read, `ProgramNotFound` where the program isn't built, `ProgramEnded` where its process was killed, and `TimedOut` where
     it answered nothing for `patience` seconds: the next question starts another one. A number that isn't one raises `TypeError`, and
-    one that is out of its range `Fault`, before the program is asked.
+    one that is out of its range `Fault`, before the program is asked. An option of another type raises `TypeError` too, and a word that it
+    doesn't have `ValueError`.
 
     >>> import olr
     >>> with olr.Map("examples") as town:
@@ -228,9 +230,12 @@ class Map:
             self._network = self._source.network()
         return self._network
 
-    def match(self, ref: str, *, page: int = 10, after: str | None = None) -> Page:
+    def match(
+        self, ref: str, *, page: int = 10, after: str | None = None, detail: bool = False
+    ) -> Page:
         """The first matchings of a reference, best first, or the first ones behind that of a cursor, such as the `next` of a page.
-        They are `page` at most, from 1 to 1000.
+        They are `page` at most, from 1 to 1000. With `detail` each says what speaks for and against it: its likely cost, whether it turns
+        back, the parts of its penalties, and what the reference tells.
 
         Raises `Fault` for what is no cursor, and for one that no matching has with this reference, map and tolerances. Totals are in
         penalty points, lengths and positions in decimetres. Raises as `Map` says.
@@ -242,7 +247,7 @@ class Map:
         ...
         (<Page: 3 matchings, total 12 to 31, more behind 31:1.2>, <Page: 3 matchings, total 35 to 89>)
         """
-        return cast(Page, self._answer("match", ref, {"page": page}, after))
+        return cast(Page, self._answer("match", ref, {"page": page, "detail": detail}, after))
 
     def pages(self, ref: str, *, page: int = 10, after: str | None = None) -> Iterator[Page]:
         """All pages of the matchings of a reference, from the first on or from a cursor on, of `page` matchings each: see `match`. If
@@ -274,19 +279,34 @@ class Map:
         return self.answers("match", texts, page=page)
 
     def places(
-        self, ref: str, *, apart: int = 750, within: int = 30, look: int = 1000, most: int = 10
+        self,
+        ref: str,
+        *,
+        apart: int = 750,
+        within: int = 30,
+        look: int = 1000,
+        most: int = 10,
+        order: Literal["total", "likely"] = "total",
+        detail: bool = False,
     ) -> Places:
         """Whether a reference fits one place, or several. `apart` is in decimetres, from 0 to 1,000,000; `within` in penalty points,
-        from 0 to 14,620; `look` in matchings, from 1 to 1,000,000; `most` in places, from 1 to 100. Raises as `Map` says.
+        from 0 to 14,620; `look` in matchings, from 1 to 1,000,000; `most` in places, from 1 to 100. The places are in the order of their
+        totals, or with "likely" first those that the sender most likely meant; `detail` is as in `match`. Raises as `Map` says.
 
         >>> import olr
         >>> with olr.Map("examples/nodes.csv", "examples/lines.csv") as town:
         ...     town.places("CwVGnSN2zhvHCgDX/tIzAw==")
         ...
         <Places: ambiguous, 2 places, total 66, margin 7>
+        >>> with olr.Map("examples/nodes.csv", "examples/lines.csv") as town:
+        ...     found = town.places("CwVGnSN2zhvHCgDX/tIzAw==", order="likely", detail=True)
+        ...
+        >>> [(place.rank, place.cost / 30, place.matching.turns_back) for place in found]
+        [(2, 28.6, False), (1, 51.8, False)]
         """
-        numbers = {"apart": apart, "within": within, "look": look, "most": most}
-        return cast(Places, self._answer("places", ref, numbers))
+        settings = {"apart": apart, "within": within, "look": look, "most": most}
+        options = {"order": order, "detail": detail}
+        return cast(Places, self._answer("places", ref, settings | options))
 
     def why(self, ref: str, *, nearest: int = 8) -> Why:
         """Why a reference has no matching. `nearest` is how many lines are told near each point, from 0 to 64. A remedy's value is in the
@@ -300,8 +320,9 @@ class Map:
         """
         return cast(Why, self._answer("why", ref, {"nearest": nearest}))
 
-    def candidates(self, ref: str) -> Candidates:
-        """The candidates of each point of a reference. Positions are in decimetres, penalties in points. Raises as `Map` says.
+    def candidates(self, ref: str, *, detail: bool = False) -> Candidates:
+        """The candidates of each point of a reference. Positions are in decimetres, penalties in points; with `detail` each has the parts of
+        its penalty. Raises as `Map` says.
 
         >>> import olr
         >>> with olr.Map("examples") as town:
@@ -309,11 +330,16 @@ class Map:
         ...
         (Candidate(at=13, line=104, penalty=3),)
         """
-        return cast(Candidates, self._answer("candidates", ref, {}))
+        return cast(Candidates, self._answer("candidates", ref, {"detail": detail}))
 
     @overload
     def answers(
-        self, what: Literal["match"], refs: Iterable[str | None], *, page: int = ...
+        self,
+        what: Literal["match"],
+        refs: Iterable[str | None],
+        *,
+        page: int = ...,
+        detail: bool = ...,
     ) -> Iterator[Page | Fault]:
         ...
 
@@ -327,6 +353,8 @@ class Map:
         within: int = ...,
         look: int = ...,
         most: int = ...,
+        order: Literal["total", "likely"] = ...,
+        detail: bool = ...,
     ) -> Iterator[Places | Fault]:
         ...
 
@@ -338,20 +366,20 @@ class Map:
 
     @overload
     def answers(
-        self, what: Literal["candidates"], refs: Iterable[str | None]
+        self, what: Literal["candidates"], refs: Iterable[str | None], *, detail: bool = ...
     ) -> Iterator[Candidates | Fault]:
         ...
 
     @overload
     def answers(
-        self, what: What, refs: Iterable[str | None], **numbers: int
+        self, what: What, refs: Iterable[str | None], **settings: Setting
     ) -> Iterator[AnswerOrFault]:
         ...
 
-    def answers(self, what: What, refs: Iterable[str | None], **numbers: int) -> Iterator[Any]:
+    def answers(self, what: What, refs: Iterable[str | None], **settings: Any) -> Iterator[Any]:
         """The answers to one question about many references, in their order: what the method of that question gives, and where it
         would raise `Fault`, that fault in place of an answer. None and NaN, as in a column of a table, have the fault `Empty`. The
-        numbers are those of that method. Raises `ValueError` for another question, `TypeError` for a number that the question doesn't
+        numbers and options are those of that method. Raises `ValueError` for another question, `TypeError` for what the question doesn't
         have, for one text or a table in place of many, and for what is no text, and `Fault` for a number out of its range. `olr.locate`
         takes a table as it is.
 
@@ -372,12 +400,12 @@ class Map:
         m4 unique
         m5 BadLength 12
         """
-        asked = self._asked(what, numbers)
+        asked = self._asked(what, settings)
         many("answers takes many references", refs, f"ask {what} about one")
         return self._answers(asked, with_empty_texts(refs))
 
     def raw_answer(
-        self, what: What, ref: str, *, after: str | None = None, **numbers: int
+        self, what: What, ref: str, *, after: str | None = None, **settings: Setting
     ) -> bytes:
         """The JSON of an answer as the program has it, for those who pass it on: what the method of that question gives, without the
         objects. `after` is for `match`. Raises as that method.
@@ -388,18 +416,18 @@ class Map:
         ...
         b'{"matchings":[],"next":null}'
         """
-        return self._line(self._asked(what, numbers), ref, after).answer
+        return self._line(self._asked(what, settings), ref, after).answer
 
-    def _asked(self, what: What, numbers: Mapping[str, int]) -> Asked:
+    def _asked(self, what: What, settings: Mapping[str, Setting]) -> Asked:
         """A question with the tolerances of this map. Raises as `words_of`."""
-        own = words_of(what, numbers)
+        own = words_of(what, settings)
         return Asked(what, (*self._words, *own))
 
     def _answer(
-        self, what: What, ref: str, numbers: dict[str, int], after: str | None = None
+        self, what: What, ref: str, settings: Mapping[str, Setting], after: str | None = None
     ) -> Answer:
         """One answer. Raises `Fault`."""
-        asked = self._asked(what, numbers)
+        asked = self._asked(what, settings)
         return self._read(asked, self._line(asked, ref, after), ref)
 
     def _line(self, asked: Asked, ref: str, after: str | None) -> RawLine:

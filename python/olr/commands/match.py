@@ -2,6 +2,7 @@
 
 import click
 import os
+from collections.abc import Mapping
 from contextlib import ExitStack
 from pathlib import Path
 from typing import Any
@@ -10,7 +11,6 @@ from olr.client.map_client import Map
 from olr.commands import options
 from olr.confidence.choosing import Chosen, cut_off_line, judging_for
 from olr.confidence.judged import Judging
-from olr.likely.long_list import listing
 from olr.matching.asking import Asked
 from olr.matching.columns import NO_PLACE, OF_QUESTION, PIECES
 from olr.matching.lacking import Lacking
@@ -20,7 +20,7 @@ from olr.messages.message import Reading
 from olr.messages.message_file import message_file
 from olr.model.asked_with import Asking
 from olr.model.map_folder import inputs_of
-from olr.model.questions import NUMBERS, What
+from olr.model.questions import NUMBERS, Setting, What, listing
 
 
 @click.command()
@@ -103,8 +103,9 @@ def command(
                 messages.write_reasons(asking.numbers, written[0])
             else:
                 second = written[1] if len(written) > 1 else None
-                numbers = listing(asking.numbers) if places else asking.numbers
-                messages.write_answers(question, numbers, part, sure.judging, written[0], second)
+                settings: Mapping[str, Setting] = asking.numbers
+                settings = listing(settings) if places else settings
+                messages.write_answers(question, settings, part, sure.judging, written[0], second)
         nowhere = lacking.line()
     references = sum(messages.outcomes.values())
     click.echo(f"{out}: {written[0].rows:,} rows of {references:,} references")

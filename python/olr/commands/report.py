@@ -7,7 +7,7 @@ from pathlib import Path
 from olr.client.map_client import Map
 from olr.commands import options
 from olr.confidence.choosing import judging_for
-from olr.likely.order import Shown
+from olr.confidence.shown import Shown
 from olr.matching.asking import Asked
 from olr.matching.columns import ANSWERS
 from olr.matching.kept_columns import kept_columns

@@ -15,14 +15,13 @@ from olr.confidence.choosing import cut_off_line, judging_for
 from olr.content import Stamp
 from olr.errors import ToolError
 from olr.extras import needed_by
-from olr.likely.long_list import LIST
 from olr.messages.message import KEY, REF, Reading
 from olr.messages.message_file import MessageFile
 from olr.messages.opening import as_file, name_of
 from olr.messages.reading import WANTED, format_in
 from olr.model.asked_with import Asking
 from olr.model.map_folder import LINES, LINES_HEADER, NODES, NODES_HEADER, write_rows
-from olr.model.questions import NUMBERS, What
+from olr.model.questions import LIST, NUMBERS, Setting, What, listing
 from olr.outputs import require_free_file
 from olr.regions.store import Store
 from olr.running.answering import ANSWERED, Job
@@ -31,7 +30,7 @@ from olr.running.grouping import Grouped
 from olr.running.identity import Build
 from olr.running.isolating import FAILURES
 from olr.running.joining import join
-from olr.running.question import Question, all_numbers
+from olr.running.question import Question, all_settings
 from olr.running.records import content_of, of_one_edition, read_records
 from olr.running.run_folder import FAILED, RUN, RunFolder
 from olr.running.tasks import Outcome
@@ -140,13 +139,13 @@ def command(
     """Match any number of references on a map of any size, on many processors or machines.
 
     MESSAGES has a key, a tab and a reference on each line, or is CSV, JSON, XML or a table of a GIS; - is standard input. DIR gets files with the lines of
-    olr batch, parts/000000.jsonl and so on; with --places those of olr batch places --within 14620 --most 100. A part is complete or absent:
-    whatever happens, --resume goes on after what is written.
+    olr batch, parts/000000.jsonl and so on; with --places those of olr batch places --within 14620 --most 100 --order likely --detail. A part is
+    complete or absent: whatever happens, --resume goes on after what is written.
     """
     question = options.one_question({"places": places, "why": why, "candidates": candidates})
     asking = options.of_question(question, chosen)
     numbers = asking.tolerances | asking.numbers
-    given = {name.removesuffix("_"): value for name, value in numbers.items()}
+    given: dict[str, Setting] = {name.removesuffix("_"): one for name, one in numbers.items()}
     if scheduler is not None and workers is not None:
         raise click.UsageError("--workers is for a run without --scheduler")
     others = [one for one in (joined, geometries, pieces) if one is not None]
@@ -169,7 +168,7 @@ def command(
         raise click.UsageError("--confidence is for --geometries with --places")
     sure = None
     if question == "places":
-        given |= LIST
+        given = listing(given)
         if rows is not None:
             sure = judging_for(confidence, asking.tolerances, asking.numbers)
             rows = rows._replace(judging=sure.judging)
@@ -191,7 +190,7 @@ def command(
         store=digest,
         program=Build.of(find_program()),
         what=question,
-        options=all_numbers(question, given),
+        options=all_settings(question, given),
         per_group=per_group,
         format=kind,
         ref=reading.ref or REF,

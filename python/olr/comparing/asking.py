@@ -10,12 +10,11 @@ from olr.comparing.changes import Compared, Side, compared
 from olr.comparing.places import Answer, Limits, likeliest_places
 from olr.confidence.judged import Judged, Judging, judged
 from olr.geometry.network import Network
-from olr.likely.long_list import listing
 from olr.matching.rows import AnswerRows
 from olr.messages.message import Message
 from olr.model.answers import Places
 from olr.model.fault import Fault
-from olr.model.reference import read_reference
+from olr.model.questions import Setting, listing
 
 CHUNK = 64
 """So many references are compared at once: each has up to 100 places on both maps."""
@@ -38,13 +37,13 @@ class Comparison:
         """The numbers are those of `places`. Both maps are asked for all places that may be shown, and `judging` says which of them are.
         Reads both maps. Raises `ToolError`."""
         self._old, self._new = (_Asked(one, one.network(), judging) for one in (old, new))
-        self._numbers, self._limits = listing(numbers), limits
+        self._settings, self._limits = listing(numbers), limits
 
     def chunks(self, messages: Iterable[Message]) -> Iterator[Chunk]:
         """The references of messages, compared. Raises `ToolError`, also if a store changes meanwhile."""
         kept, for_old, for_new = tee(messages, 3)
-        old = self._old.places(for_old, self._numbers)
-        new = self._new.places(for_new, self._numbers)
+        old = self._old.places(for_old, self._settings)
+        new = self._new.places(for_new, self._settings)
         answered = zip(kept, old, new, strict=True)
         while chunk := list(islice(answered, CHUNK)):
             yield self._chunk(*zip(*chunk))
@@ -70,10 +69,12 @@ class _Asked(NamedTuple):
     network: Network
     judging: Judging
 
-    def places(self, messages: Iterable[Message], numbers: Mapping[str, int]) -> Iterator[Answer]:
+    def places(
+        self, messages: Iterable[Message], settings: Mapping[str, Setting]
+    ) -> Iterator[Answer]:
         """The places of the references of messages."""
         asked, again = tee(messages)
-        answers = self.map.answers("places", (one.reference for one in again), **numbers)
+        answers = self.map.answers("places", (one.reference for one in again), **settings)
         for message, answer in zip(asked, cast(Iterator[Answer], answers), strict=True):
             yield message.answer(answer)
 
@@ -81,8 +82,7 @@ class _Asked(NamedTuple):
         self, texts: Sequence[str], answers: Sequence[Answer]
     ) -> tuple[list[Side], AnswerRows]:
         """Where the map has references, by the answers about their places, and why those have none that have none; and their rows."""
-        references = list(map(read_reference, texts))
-        judgements = judged(answers, references, self.network, self.judging)
+        judgements = judged(answers, self.judging)
         rows, shapes = likeliest_places(answers, judgements, self.network)
         lacking = [isinstance(one, Places) and not one.places for one in answers]
         wanted = [text for text, lacks in zip(texts, lacking) if lacks]

@@ -2,10 +2,12 @@
 
 | module | subject |
 |---|---|
+| `terms` | what the program says for and against the places of many answers, as arrays |
 | `weights` | how much each difference counts: a conditional logit over the places of an answer and none of these |
 | `confidence` | `olr.Confidence`: weights with the tolerances that they are for; the one that comes with the package |
 | `contents` | what the file of a confidence has in it, read and written |
-| `reasons`, `judged` | answers in the likely order with their probabilities, and why, in a sentence |
+| `shown` | which places of the long list are shown |
+| `reasons`, `judged` | answers with the probabilities of their places, and why, in a sentence |
 | `parts` | trials in parts that differ in how different maps and references are; trials on a pair of maps |
 | `feed`, `likeness` | what the answers to a feed show, and which parts it looks like |
 | `fitting` | weights by answers to trials; their level by answers that somebody checked |

@@ -7,7 +7,7 @@ from typing import Any, NamedTuple
 
 from olr.arrays import Floats
 from olr.confidence.confidence import Confidence
-from olr.confidence.feed import LEAST_REFERENCES, Answered, statistics_of
+from olr.confidence.feed import LEAST_REFERENCES, statistics_of
 from olr.confidence.fitting import LEAST_CHECKED, Checked, Trial, fitted, shift_of, shifted
 from olr.confidence.likeness import (
     WIDTH_OF_MAPS,
@@ -27,6 +27,7 @@ from olr.confidence.parts import (
     parts_of,
     parts_of_pair,
 )
+from olr.confidence.terms import Terms
 from olr.confidence.weights import WEIGHTS, Differences, differences_of, probabilities
 from olr.errors import ToolError
 from olr.model.map_folder import read_map, store_of
@@ -137,38 +138,37 @@ def _checked(folder: Path, wanted: Wanted, asking: Asking) -> Checked | None:
         return None
     texts = [text for text, _ in wanted.checked]
     with asking.map_of(folder) as asked:
-        answered = answered_by(asked, texts, asking)
-    found = answered.found
-    right = np.array([right for _, right in wanted.checked], dtype=np.bool_)[found.sizes > 0]
+        terms = answered_by(asked, texts, asking).terms
+    right = np.array([right for _, right in wanted.checked], dtype=np.bool_)[terms.sizes > 0]
     if len(right) < LEAST_CHECKED:
         raise ToolError(
             f"{len(right):,} of {len(texts):,} checked messages have a place, and {LEAST_CHECKED} are needed: check more"
         )
-    first = np.zeros(len(found.matchings), dtype=np.bool_)
-    first[found.first()] = True
-    return Checked(differences_of(found, answered.evidence), first, right)
+    first = np.zeros(len(terms.costs), dtype=np.bool_)
+    first[terms.first()] = True
+    return Checked(differences_of(terms), first, right)
 
 
-def answered_feed(folder: Path, texts: Sequence[str], asking: Asking) -> Answered | None:
+def answered_feed(folder: Path, texts: Sequence[str], asking: Asking) -> Terms | None:
     """What a map answers to a feed; None for no feed. It is asked about something in any case: raises `ToolError` for a map that can't be
     read."""
     with asking.map_of(folder) as asked:
-        found = answered_by(asked, texts or [SOME_REFERENCE], asking)
+        found = answered_by(asked, texts or [SOME_REFERENCE], asking).terms
     return found if texts else None
 
 
-def chosen_parts(parts: Sequence[Part], feed: Answered | None, wanted: Wanted) -> Chosen:
+def chosen_parts(parts: Sequence[Part], feed: Terms | None, wanted: Wanted) -> Chosen:
     """How much each part counts: those that look like the feed, and whose maps are as different as is stated. Without either all count
     alike."""
     said: list[Floats] = []
     aims: list[float] = []
     widths: list[float] = []
     statistics = None
-    if feed is not None and len(feed.found.sizes) >= LEAST_REFERENCES:
+    if feed is not None and len(feed.sizes) >= LEAST_REFERENCES:
         usual = fitted(trial_of(parts, np.ones(len(parts))))
         statistics = statistics_of(feed, usual)
         known = np.array([(part.wrong(), part.references) for part in parts])
-        of_parts = [list(statistics_of(part.answered, usual).values()) for part in parts]
+        of_parts = [list(statistics_of(part.terms, usual).values()) for part in parts]
         likeness = Likeness(np.array(of_parts), known)
         aims = likeness.said_of(np.array(list(statistics.values()))).tolist()
         said = list(likeness.said.T)
@@ -185,7 +185,7 @@ def chosen_parts(parts: Sequence[Part], feed: Answered | None, wanted: Wanted) -
 
 def trial_of(parts: Sequence[Part], weights: Floats) -> Trial:
     """The trials of parts, which count so much."""
-    each = [differences_of(part.answered.found, part.answered.evidence) for part in parts]
+    each = [differences_of(part.terms) for part in parts]
     before = np.cumsum([0, *(len(one.of_place) for one in each)])
     right = [
         np.where(part.right < 0, part.right, part.right + at) for part, at in zip(parts, before)
@@ -202,9 +202,8 @@ def level_of(parts: Sequence[Part], counts: Floats, weights: Floats) -> float:
     deviation, without what is due to chance."""
     squares = []
     for part in parts:
-        found = part.answered.found
-        first = found.first()
-        told = probabilities(weights, differences_of(found, part.answered.evidence))
+        first = part.terms.first()
+        told = probabilities(weights, differences_of(part.terms))
         likeliest = told.of_place[first]
         count = max(len(first), 1)
         off = float((part.right == first).sum() - likeliest.sum()) / count

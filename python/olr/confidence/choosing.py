@@ -6,8 +6,8 @@ from typing import Any, NamedTuple
 
 from olr.confidence.confidence import Confidence
 from olr.confidence.judged import Judging
+from olr.confidence.shown import Shown
 from olr.errors import ToolError
-from olr.likely.order import Shown
 from olr.model.questions import NUMBERS
 
 REMEDY = "make a file with your options by olr-tools calibrate"
@@ -32,7 +32,7 @@ def confidence_of(file: Path | None) -> Confidence:
 
 
 def judging_for(
-    file: Path | None, tolerances: Mapping[str, Any], numbers: Mapping[str, int]
+    file: Path | None, tolerances: Mapping[str, Any], numbers: Mapping[str, Any]
 ) -> Chosen:
     """By what answers are judged that are asked with tolerances and numbers of `places`: those that were given. Without a file and with
     other numbers than those of the one that comes with the package there are no probabilities. Raises `ToolError` if the file is none, or
@@ -44,7 +44,7 @@ def judging_for(
 
 
 def judging_with(
-    confidence: Confidence | None, tolerances: Mapping[str, Any], numbers: Mapping[str, int]
+    confidence: Confidence | None, tolerances: Mapping[str, Any], numbers: Mapping[str, Any]
 ) -> Chosen:
     """As `judging_for`, by a confidence that was given, or by the one that comes with the package. Raises as it does."""
     chosen = judging_by(confidence or Confidence.default(), tolerances, numbers)
@@ -54,7 +54,7 @@ def judging_with(
 
 
 def judging_by(
-    confidence: Confidence, tolerances: Mapping[str, Any], numbers: Mapping[str, int]
+    confidence: Confidence, tolerances: Mapping[str, Any], numbers: Mapping[str, Any]
 ) -> Chosen:
     """As `judging_for`, by a confidence: if it is for other numbers there are no probabilities."""
     apart = numbers.get("apart", NUMBERS["places"]["apart"].default)

@@ -1,25 +1,20 @@
 """How probable it is that a place is the right one: `olr.Confidence`."""
 
-from collections.abc import Mapping, Sequence
+from collections.abc import Mapping
 from dataclasses import dataclass
 from functools import cache
 from pathlib import Path
-from typing import TYPE_CHECKING, Any
+from typing import Any
 
 from olr.extras import needed_by
-from olr.model.answers import Reference
 from olr.model.profiles import DEFAULT_PROFILE, resolved
 
 with needed_by("olr.Confidence", "geo"):
     import numpy as np
 
     from olr.confidence.likeness import Range
+    from olr.confidence.terms import Terms
     from olr.confidence.weights import WEIGHTS, Probabilities, differences_of, probabilities
-    from olr.likely.evidence import Evidence
-    from olr.likely.listed import Listed, evidence_for
-
-if TYPE_CHECKING:
-    from olr.geometry.network import Network
 
 DEFAULT = Path(__file__).with_name("shipped.json")
 """The file that comes with the package."""
@@ -34,8 +29,8 @@ class Confidence:
     >>> import olr
     >>> text, sure = "CwVF/yN2yRpnBAFUAAgbpwYBAf9kK0Fa", olr.Confidence.default()
     >>> with olr.Map("examples") as town:
-    ...     answers = [town.places(text, within=14620, most=100)]
-    ...     table = olr.to_geodataframe(answers, town.network(), confidence=sure, references=[text], most=1)
+    ...     answers = [town.places(text, within=14620, most=100, order="likely", detail=True)]
+    ...     table = olr.to_geodataframe(answers, town.network(), confidence=sure, most=1)
     ...
     >>> bool(table["probability"][0] > 0.9)
     True
@@ -96,41 +91,21 @@ class Confidence:
         ]
         return "; ".join(others)
 
-    def evidence(
-        self, found: Listed, references: Sequence[Reference | None], network: "Network"
-    ) -> Evidence:
-        """What speaks for and against places. There is a reference for each answer that has one. Raises `ToolError` if the network hasn't
-        a line.
+    def of(self, terms: Terms) -> Probabilities:
+        """How probable it is that each place of answers is the right one, and of each answer that has one that none of its places is.
 
         >>> import olr
-        >>> from olr.likely.listed import listed
+        >>> from olr.confidence.terms import terms_of
         >>> text, sure = "CwVF/yN2yRpnBAFUAAgbpwYBAf9kK0Fa", olr.Confidence.default()
         >>> with olr.Map("examples") as town:
-        ...     network, found = town.network(), [town.places(text, within=14620, most=100)]
+        ...     found = town.places(text, within=14620, most=100, order="likely", detail=True)
         ...
-        >>> places = listed(found, network)
-        >>> evidence = sure.evidence(places, [olr.decode(text)], network)
-        >>> len(evidence.fit.point_penalty)
-        1
-        """
-        return evidence_for(found, references, network, self.tolerances["radius"])
-
-    def of(self, found: Listed, evidence: Evidence) -> Probabilities:
-        """How probable it is that each place is the right one, and of each answer that has one that none of its places is.
-
-        >>> import olr
-        >>> from olr.likely.listed import listed
-        >>> text, sure = "CwVF/yN2yRpnBAFUAAgbpwYBAf9kK0Fa", olr.Confidence.default()
-        >>> with olr.Map("examples") as town:
-        ...     network, found = town.network(), [town.places(text, within=14620, most=100)]
-        ...
-        >>> places = listed(found, network)
-        >>> of_place, of_none = sure.of(places, sure.evidence(places, [olr.decode(text)], network))
+        >>> of_place, of_none = sure.of(terms_of([found]))
         >>> bool(of_place[0] + of_none[0] > 0.999)
         True
         """
         weights = np.array([self.weights[name] for name in WEIGHTS])
-        return probabilities(weights, differences_of(found, evidence))
+        return probabilities(weights, differences_of(terms))
 
 
 @cache

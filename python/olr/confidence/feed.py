@@ -1,14 +1,12 @@
 """What the answers to a feed show of how different its sender's map is: some numbers of all of them together."""
 
 import numpy as np
-from collections.abc import Sequence
-from typing import Any, NamedTuple
+from typing import Any
 
 from olr.arrays import Floats
+from olr.confidence.shown import POINT
+from olr.confidence.terms import INTERVAL, Terms
 from olr.confidence.weights import differences_of, probabilities
-from olr.likely.evidence import INTERVAL, Evidence
-from olr.likely.listed import Listed
-from olr.model.answers import Reference
 
 LEAST_REFERENCES = 80
 """A feed of fewer references says too little."""
@@ -18,33 +16,23 @@ FAR_END = 10.0
 """Metres that a point lies from the proper end of its line, beyond which it doesn't lie at the junction."""
 
 
-class Answered(NamedTuple):
-    """Answers to references with what speaks for and against their places."""
-
-    references: Sequence[Reference | None]
-    """None for a text that is none."""
-    found: Listed
-    evidence: Evidence
-
-
-def statistics_of(answered: Answered, weights: Floats) -> dict[str, float]:
+def statistics_of(terms: Terms, weights: Floats) -> dict[str, float]:
     """The numbers of some answers by what they are. Those of the likeliest places alone count, but for how many there are. `weights` are
     those by which it is doubted that these are right. Of answers of which none has a place most numbers are 0.
     """
-    found, evidence = answered.found, answered.evidence
-    first = np.zeros(len(found.matchings), dtype=np.bool_)
-    first[found.first()] = True
-    points = np.repeat(first, found.fit.counts)
-    legs = np.repeat(first, found.fit.counts - 1)
-    places = _or_zero(found.sizes[found.sizes > 0])
-    distance, sectors = _or_zero(evidence.distance[points]), _or_zero(evidence.sectors[points])
-    misses = _or_zero(np.abs(evidence.longer()[legs]))
-    off = _off(evidence.told[legs], evidence.length[legs])
-    from_end = _or_zero(found.fit.from_end[points])
-    costs = _or_zero(found.costs[first] / found.fit.counts[first])
-    doubts = _or_zero(probabilities(weights, differences_of(found, evidence)).of_none)
+    first = np.zeros(len(terms.costs), dtype=np.bool_)
+    first[terms.first()] = True
+    points = np.repeat(first, terms.counts)
+    legs = np.repeat(first, terms.counts - 1)
+    places = _or_zero(terms.sizes[terms.sizes > 0])
+    distance, sectors = _or_zero(terms.distance[points]), _or_zero(terms.sectors[points])
+    misses = _or_zero(np.abs(terms.longer()[legs]))
+    off = _off(terms.told[legs], terms.length[legs])
+    from_end = _or_zero(terms.from_end[points])
+    costs = _or_zero(terms.costs[first] / POINT / terms.counts[first])
+    doubts = _or_zero(probabilities(weights, differences_of(terms)).of_none)
     return {
-        "share of references without a place": np.mean(found.sizes == 0),
+        "share of references without a place": np.mean(terms.sizes == 0),
         "mean of the logarithm of one more than the places": np.mean(np.log1p(places)),
         "share with several places": np.mean(places > 1),
         "median distance of points from their lines, in metres": np.median(distance),
@@ -59,12 +47,12 @@ def statistics_of(answered: Answered, weights: Floats) -> dict[str, float]:
             np.abs(off)
         ),
         "standard deviation of that": np.std(off),
-        "mean difference of classes": np.mean(_or_zero(evidence.classes[points])),
-        "share of points with another form": np.mean(_or_zero(evidence.other_form[points])),
+        "mean difference of classes": np.mean(_or_zero(terms.classes[points])),
+        "share of points with another form": np.mean(_or_zero(terms.other_form[points])),
         "share of points that don't lie at the proper end of their line": np.mean(
             from_end > FAR_END
         ),
-        "share of places that turn back": np.mean(_or_zero(found.fit.turns_back[first])),
+        "share of places that turn back": np.mean(_or_zero(terms.turns_back[first])),
         "mean likely cost for each point": np.mean(costs),
         "mean probability of none of these": np.mean(doubts),
         "share where it is above a half": np.mean(doubts > 0.5),

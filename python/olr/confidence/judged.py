@@ -1,21 +1,18 @@
 """Answers to `places` with their places in the likely order, and how probable each of them is."""
 
-import math
-import numpy as np
 from collections.abc import Sequence
-from typing import TYPE_CHECKING, NamedTuple
+from typing import NamedTuple
 
-from olr.arrays import Floats
 from olr.confidence.confidence import Confidence
 from olr.confidence.likeness import Range
 from olr.confidence.reasons import reasons_of
-from olr.likely.listed import Listed, listed
-from olr.likely.order import Shown, Verdict, are_shown, is_cut_off, likely_order, verdict_within
-from olr.model.answers import Page, PlaceOfReference, Places, Reference
+from olr.confidence.shown import Shown, Verdict, are_shown, is_cut_off, verdict_within
+from olr.confidence.terms import ends_of, terms_of
+from olr.model.answers import Page, PlaceOfReference, Places
 from olr.model.fault import Fault
+from olr.model.questions import LIST
 
-if TYPE_CHECKING:
-    from olr.geometry.network import Network
+HOW_TO_ASK = ", ".join(f"{name}={value!r}" for name, value in LIST.items())
 
 
 class JudgedPlace(NamedTuple):
@@ -23,12 +20,13 @@ class JudgedPlace(NamedTuple):
 
     place: PlaceOfReference
     rank: int
-    """In the program's order, from 1."""
-    likely: int
-    """In the likely order, from 1."""
-    ends: float
-    """How far its points lie from the proper ends of their lines together, in metres, 50 at most of each."""
-    turns_back: bool
+    """In the order of totals, from 1."""
+    likely: int | None
+    """In the likely order, from 1. None where the answer is in another one."""
+    ends: float | None
+    """How far its points lie from the proper ends of their lines together, in metres, 50 at most of each. None without detail, as
+    `turns_back`."""
+    turns_back: bool | None
     probability: float | None = None
     """None where there is no confidence, or the reference is a point along a line."""
     reasons: str = ""
@@ -36,10 +34,10 @@ class JudgedPlace(NamedTuple):
 
 
 class Judged(NamedTuple):
-    """An answer whose places are in the likely order."""
+    """An answer whose places are judged."""
 
     places: Sequence[JudgedPlace]
-    """Those that are shown, the likeliest one first."""
+    """Those that are shown, in the order of the answer."""
     verdict: Verdict
     margin: int | None
     none_of_these: float | None = None
@@ -58,75 +56,75 @@ class Judging(NamedTuple):
     """Which places of a longer list are shown: all of them for None."""
 
 
-_Row = tuple[float, bool, float | None, str]
-"""Of a place what its `JudgedPlace` has from `ends` on."""
+class _Told(NamedTuple):
+    """What a confidence says of an answer."""
+
+    of_places: Sequence[float | None]
+    reasons: Sequence[str]
+    of_none: float | None
 
 
 def judged(
-    answers: Sequence[Places | Page | Fault],
-    references: Sequence[Reference | None],
-    network: "Network",
-    judging: Judging = Judging(),
+    answers: Sequence[Places | Page | Fault], judging: Judging = Judging()
 ) -> list[Judged | None]:
-    """Answers to references, of which there is one for each; None for what isn't an answer to `places`. Where a reference isn't known its
-    answer has no probabilities. Raises `ToolError` if the network hasn't a line, and `MapRefused` if it is of another version of the map.
-    """
+    """Answers as they are judged; None for what isn't an answer to `places`. Raises `ValueError` for one in another order than the likely one,
+    or without detail, where there is a confidence."""
     places = [one if isinstance(one, Places) else None for one in answers]
-    found = listed(places, network)
-    rows, of_none = _rows(found, references, network, judging.confidence)
-    result: list[Judged | None] = []
-    for one, end, none in zip(places, np.cumsum(found.sizes).tolist(), of_none):
-        if one is None:
-            result.append(None)
-            continue
-        here = slice(end - len(one.places), end)
-        result.append(_judged(one, found.costs[here], rows[here], none, judging))
-    return result
+    told = _told(places, judging.confidence)
+    return [
+        None if one is None else _judged(one, of_one, judging) for one, of_one in zip(places, told)
+    ]
 
 
-def _judged(
-    answer: Places, costs: Floats, rows: Sequence[_Row], none: float | None, judging: Judging
-) -> Judged:
-    """An answer whose places have these likely costs and rows. `none` is how probable it is that it has not the right one."""
-    confidence, shown = judging
-    order = likely_order(costs) if shown is None else are_shown(answer, costs, shown)
+def _judged(answer: Places, told: _Told, judging: Judging) -> Judged:
+    """An answer of which this is told."""
+    (confidence, shown), none = judging, told.of_none
+    numbers = range(len(answer)) if shown is None else are_shown(answer, shown)
     return Judged(
-        places=[
-            JudgedPlace(answer.places[at], at + 1, likely, *rows[at])
-            for likely, at in enumerate(order, 1)
-        ],
+        places=[_place(answer, *one, told) for one in enumerate(numbers, 1)],
         verdict=answer.verdict if shown is None else verdict_within(answer, shown.within),
         margin=answer.margin,
         none_of_these=none,
         map_differs=None if none is None or confidence is None else confidence.map_differs,
-        is_cut_off=shown is not None and is_cut_off(answer, costs, shown),
+        is_cut_off=shown is not None and is_cut_off(answer, shown.within),
     )
 
 
-def _rows(
-    found: Listed,
-    references: Sequence[Reference | None],
-    network: "Network",
-    confidence: Confidence | None,
-) -> tuple[list[_Row], list[float | None]]:
-    """What is known of each place, one answer behind the other, and how probable it is of each answer that none of its places is right.
-    Nothing probable is said of points along a line: no trial is of one."""
-    of_place = np.full(len(found.matchings), np.nan)
-    of_none = np.full(len(found.sizes), np.nan)
-    reasons = [""] * len(found.matchings)
-    lines = [one if one is not None and one.kind == "line" else None for one in references]
-    wanted = np.array([one is not None for one in lines], dtype=np.bool_) & (found.sizes > 0)
-    if confidence is not None and wanted.any():
-        some = found.only(wanted)
-        evidence = confidence.evidence(some, lines, network)
-        places = np.repeat(wanted, found.sizes)
-        of_place[places], of_none[wanted] = confidence.of(some, evidence)
-        for row, text in zip(np.flatnonzero(places).tolist(), reasons_of(evidence)):
-            reasons[row] = text
-    ends, turns_back = found.fit.ends().tolist(), found.fit.turns_back.tolist()
-    return list(zip(ends, turns_back, _told(of_place), reasons)), _told(of_none)
+def _place(answer: Places, likely: int, number: int, told: _Told) -> JudgedPlace:
+    """One of its places."""
+    one = answer.places[number]
+    return JudgedPlace(
+        place=one,
+        rank=one.rank or number + 1,
+        likely=None if one.rank is None else likely,
+        ends=ends_of(one.matching),
+        turns_back=one.matching.turns_back,
+        probability=told.of_places[number],
+        reasons=told.reasons[number],
+    )
 
 
-def _told(probabilities: Floats) -> list[float | None]:
-    """Probabilities, with None for NaN: nothing is said there."""
-    return [None if math.isnan(value) else value for value in probabilities.tolist()]
+def _told(answers: Sequence[Places | None], confidence: Confidence | None) -> list[_Told]:
+    """What a confidence says of answers. Nothing is said of points along a line: no trial is of one."""
+    sizes = [0 if one is None else len(one) for one in answers]
+    told = [_Told([None] * size, [""] * size, None) for size in sizes]
+    if confidence is None:
+        return told
+    lines = [one if one and _is_of_line(one) else None for one in answers]
+    terms = terms_of(lines)
+    of_place, of_none = confidence.of(terms)
+    reasons = reasons_of(terms)
+    end = 0
+    of_answers = iter(of_none.tolist())
+    for number, one in enumerate(lines):
+        if one is not None:
+            here = slice(end, end := end + len(one))
+            told[number] = _Told(of_place[here].tolist(), reasons[here], next(of_answers))
+    return told
+
+
+def _is_of_line(answer: Places) -> bool:
+    """Whether an answer that has places is about a line. Raises `ValueError` where it doesn't say what probabilities are made of."""
+    if any(one.cost is None or one.matching.cost is None for one in answer):
+        raise ValueError(f"these places have no probabilities: ask for them with {HOW_TO_ASK}")
+    return answer.places[0].matching.earliest is None

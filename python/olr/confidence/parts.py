@@ -11,18 +11,15 @@ from typing import Any, NamedTuple
 from olr.arrays import Floats, Integers
 from olr.asking.patience import PATIENCE
 from olr.client.map_client import Map
-from olr.confidence.feed import Answered
 from olr.confidence.fitting import NONE
+from olr.confidence.terms import Terms, terms_of
 from olr.geometry.agreement import agreement
 from olr.geometry.network import Network
 from olr.geometry.parts import parts_of as arrays_of
-from olr.likely.listed import Listed, evidence_for, listed
-from olr.likely.long_list import LIST
-from olr.model.answers import Places
+from olr.model.answers import Matching, Places
 from olr.model.map_folder import read_map, write_records
 from olr.model.profiles import as_arguments
-from olr.model.questions import NUMBERS
-from olr.model.reference import read_reference
+from olr.model.questions import NUMBERS, Setting, listing
 from olr.model.road_map import RoadMap
 from olr.outputs import writing
 from olr.progress import progress
@@ -71,9 +68,16 @@ class Asking(NamedTuple):
         tolerances: dict[str, Any] = as_arguments(self.tolerances)
         return Map.of_folder(folder, **tolerances, patience=self.patience)
 
-    def numbers(self) -> dict[str, int]:
+    def settings(self) -> dict[str, Setting]:
         """Those of the question."""
-        return {"apart": self.apart, "look": self.look, **LIST}
+        return listing({"apart": self.apart, "look": self.look})
+
+
+class Answered(NamedTuple):
+    """The places of answers to references."""
+
+    matchings: Sequence[Matching]
+    terms: Terms
 
 
 class Part(NamedTuple):
@@ -83,13 +87,13 @@ class Part(NamedTuple):
     """How different they are: 1 as the map of another maker."""
     references: float
     """How far off the references are: 1 as those of `SPREADS`."""
-    answered: Answered
+    terms: Terms
     right: Integers
     """For each answer that has a place the number of the right one among all places, or `NONE`: of several ones the likeliest."""
 
     def wrong(self) -> float:
         """The share of likeliest places that aren't the right ones; 0 where there is none."""
-        first = self.answered.found.first()
+        first = self.terms.first()
         return float(np.mean(self.right != first)) if len(first) else 0.0
 
 
@@ -136,14 +140,13 @@ def parts_of(road_map: RoadMap, drawing: Drawing, asking: Asking) -> Iterator[Pa
         sender = differing(here, roads, lacked, draws)
         other = differing(here, roads, of_kinds, draws)
         tried = _tried(paths, Graph(sender, roads), count, references, draws)
-        answered = ask(other, tried.texts, asking)
-        found = answered.found
+        found = ask(other, tried.texts, asking)
         here_or_there = lengths | {line.id: line.length for line in other.lines}
         are_right = [
             is_right(here_or_there, tried.paths[owner], matching.outer or ())
-            for owner, matching in zip(found.owners().tolist(), found.matchings)
+            for owner, matching in zip(found.terms.owners().tolist(), found.matchings)
         ]
-        yield Part(maps, references, answered, right_places(found, are_right))
+        yield Part(maps, references, found.terms, right_places(found.terms, are_right))
 
 
 def parts_of_pair(folder: Path, sender: Path, drawing: Drawing, asking: Asking) -> Iterator[Part]:
@@ -157,17 +160,16 @@ def parts_of_pair(folder: Path, sender: Path, drawing: Drawing, asking: Asking) 
         for count, draws in drawing.each("trial references"):
             references = draws.uniform(0, GREATEST_SPREAD)
             tried = _tried(paths, graph, count, references, draws)
-            answered = answered_by(asked, tried.texts, asking)
-            found = answered.found
+            found = answered_by(asked, tried.texts, asking)
             arrays = arrays_of([one.outer for one in found.matchings])
             lines = asked.network().polylines(arrays.pieces, arrays.counts)
             places = lines.each()
             true = [_points_of(path, geometry) for path in tried.paths]
             are_right = [
                 is_right_by_geometry(true[owner], place)
-                for owner, place in zip(found.owners().tolist(), places)
+                for owner, place in zip(found.terms.owners().tolist(), places)
             ]
-            yield Part(0.0, references, answered, right_places(found, are_right))
+            yield Part(0.0, references, found.terms, right_places(found.terms, are_right))
 
 
 def _tried(
@@ -206,21 +208,17 @@ def ask(road_map: RoadMap, texts: Sequence[str], asking: Asking) -> Answered:
 
 def answered_by(asked: Map, texts: Sequence[str], asking: Asking) -> Answered:
     """What a map answers to references, with what speaks for and against each place. Raises `ToolError`."""
-    answers = asked.answers("places", texts, **asking.numbers())
-    found = listed([one if isinstance(one, Places) else None for one in answers], asked.network())
-    references = list(map(read_reference, texts))
-    radius = asking.tolerances["radius"]
-    return Answered(references, found, evidence_for(found, references, asked.network(), radius))
+    answers = asked.answers("places", texts, **asking.settings())
+    places = [one if isinstance(one, Places) else None for one in answers]
+    matchings = [one.matching for answer in places if answer for one in answer.places]
+    return Answered(matchings, terms_of(places))
 
 
-def right_places(found: Listed, are_right: Sequence[bool]) -> Integers:
+def right_places(terms: Terms, are_right: Sequence[bool]) -> Integers:
     """The number of the right place of each answer that has one: the likeliest one of those that are right, or `NONE`."""
-    right = np.array(are_right, dtype=np.bool_)
-    owners = found.owners()
-    order = np.lexsort((found.costs, owners))
-    order = order[right[order]]
-    numbers, first = np.unique(owners[order], return_index=True)
-    of_answers = np.full(len(found.sizes), NONE, dtype=np.int64)
-    of_answers[numbers] = order[first]
-    result: Integers = of_answers[found.sizes > 0]
+    right = np.flatnonzero(are_right)
+    numbers, first = np.unique(terms.owners()[right], return_index=True)
+    of_answers = np.full(len(terms.sizes), NONE, dtype=np.int64)
+    of_answers[numbers] = right[first]
+    result: Integers = of_answers[terms.sizes > 0]
     return result

@@ -4,7 +4,7 @@ import numpy as np
 from collections.abc import Iterator
 from typing import NamedTuple
 
-from olr.likely.evidence import Evidence
+from olr.confidence.terms import Terms
 
 MOST_REASONS = 4
 OFF = 0.02
@@ -25,21 +25,20 @@ class _Reason(NamedTuple):
     text: str
 
 
-def reasons_of(evidence: Evidence) -> list[str]:
-    """The reasons of each matching, those that weigh most first."""
-    fit = evidence.fit
-    behind_points, behind_legs = np.cumsum(fit.counts), np.cumsum(fit.counts - 1)
-    longer = evidence.longer()
+def reasons_of(terms: Terms) -> list[str]:
+    """The reasons of each place, those that weigh most first."""
+    behind_points, behind_legs = np.cumsum(terms.counts), np.cumsum(terms.counts - 1)
+    longer = terms.longer()
     found = []
     for number, (points, legs) in enumerate(zip(behind_points.tolist(), behind_legs.tolist())):
-        count = int(fit.counts[number])
+        count = int(terms.counts[number])
         of_points, of_legs = slice(points - count, points), slice(legs - count + 1, legs)
         reasons = [
-            *_of_route(bool(fit.turns_back[number]), int(fit.lines[number])),
+            *_of_route(bool(terms.turns_back[number]), int(terms.lines[number])),
             *_of_legs(longer[of_legs].tolist()),
-            *_of_ends(fit.from_end[of_points].tolist()),
-            *_of_distances(evidence.distance[of_points].tolist()),
-            *_of_directions(evidence.sectors[of_points].tolist()),
+            *_of_ends(terms.from_end[of_points].tolist()),
+            *_of_distances(terms.distance[of_points].tolist()),
+            *_of_directions(terms.sectors[of_points].tolist()),
         ]
         reasons.sort(key=lambda one: -one.weight)
         found.append("; ".join(one.text for one in reasons[:MOST_REASONS]) or ALL_FITS)

@@ -9,8 +9,8 @@ from collections.abc import Mapping
 from typing import NamedTuple
 
 from olr.arrays import Floats, Integers
-from olr.likely.evidence import Evidence
-from olr.likely.listed import Listed
+from olr.confidence.shown import POINT
+from olr.confidence.terms import Terms
 
 
 class Weight(NamedTuple):
@@ -68,13 +68,13 @@ class Probabilities(NamedTuple):
     """Of each answer: with those of its places they add up to 1."""
 
 
-def differences_of(found: Listed, evidence: Evidence) -> Differences:
-    """What the weights count of places, of which is known what speaks for and against each."""
-    sizes = found.sizes[found.sizes > 0]
-    first = found.first()
-    least = np.repeat(found.costs[first], sizes)
-    columns = (*evidence.sums().T, found.costs - least, found.fit.turns_back.astype(np.float64))
-    points, lines = found.fit.counts[first], found.fit.lines[first]
+def differences_of(terms: Terms) -> Differences:
+    """What the weights count of places."""
+    sizes = terms.sizes[terms.sizes > 0]
+    first = terms.first()
+    behind = (terms.costs - np.repeat(terms.costs[first], sizes)) / POINT
+    columns = (*terms.sums().T, behind, terms.turns_back.astype(np.float64))
+    points, lines = terms.counts[first], terms.lines[first]
     of_none = (np.ones(len(first)), points - 2.0, np.log(np.maximum(lines, 1)))
     return Differences(sizes, np.stack(columns, axis=1), np.stack(of_none, axis=1))
 

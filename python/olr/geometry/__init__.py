@@ -6,7 +6,6 @@
 | `store_network` | the same of a store, of which it reads what is asked for |
 | `parts` | pieces of many matchings as arrays |
 | `turns` | the turns from lines into others, by nodes and bans |
-| `turning_back` | which routes turn back |
 | `plane`, `stretches` | polylines in a plane with metres; what one has of another one and what it lacks, and how far they are apart |
 | `agreement` | how far two places agree: what they cover of each other |
 """

@@ -9,7 +9,7 @@ from itertools import islice, tee
 
 from olr.client.map_client import Map
 from olr.confidence.judged import Judging
-from olr.likely.order import listed_within
+from olr.confidence.shown import listed_within
 from olr.matching.chunks import Answered, chunks_of
 from olr.matching.lacking import Lacking
 from olr.matching.reasons import ReasonsBeside, rows_of_reasons
@@ -19,7 +19,7 @@ from olr.messages.message import Message
 from olr.messages.message_file import MessageFile
 from olr.model.answers import AnswerOrFault, Page, Places, Why
 from olr.model.fault import Fault
-from olr.model.questions import What
+from olr.model.questions import Setting, What
 from olr.progress import progress
 
 NOWHERE = "none"
@@ -53,7 +53,7 @@ class Asked:
     def write_answers(
         self,
         question: What,
-        numbers: Mapping[str, int],
+        settings: Mapping[str, Setting],
         part: Extent,
         judging: Judging,
         rows: Sink,
@@ -63,10 +63,8 @@ class Asked:
         network = self._map.network()
         messages, again = tee(self._messages)
         counted = self._map.answers("candidates", (message.reference for message in again))
-        both = zip(self._answered(messages, question, numbers), counted, strict=True)
-        answered = (
-            Answered(message, message.reference, answer, count) for (message, answer), count in both
-        )
+        both = zip(self._answered(messages, question, settings), counted, strict=True)
+        answered = (Answered(message, answer, count) for (message, answer), count in both)
         for chunk in chunks_of(answered, network, judging):
             self.cut_off += chunk.cut_off()
             made = chunk.rows(part)
@@ -84,10 +82,10 @@ class Asked:
             rows.add(messages, rows_of_reasons(texts, reasons))
 
     def answered(
-        self, question: What, numbers: Mapping[str, int]
+        self, question: What, settings: Mapping[str, Setting]
     ) -> Iterator[tuple[Message, AnswerOrFault]]:
         """All messages with their answers, once. Raises `ToolError`."""
-        return self._answered(self._messages, question, numbers)
+        return self._answered(self._messages, question, settings)
 
     def summary(self) -> Iterator[str]:
         """How often an answer was what, a line each, the most frequent ones first."""
@@ -95,12 +93,12 @@ class Asked:
             yield f"{outcome}: {number:,}"
 
     def _answered(
-        self, messages: Iterator[Message], question: What, numbers: Mapping[str, int]
+        self, messages: Iterator[Message], question: What, settings: Mapping[str, Setting]
     ) -> Iterator[tuple[Message, AnswerOrFault]]:
         """Messages with their answers, counted by their outcome, while it is shown how far they are."""
         messages, again = tee(messages)
         texts = (message.reference for message in again)
-        answers = self._map.answers(question, texts, **numbers)
+        answers = self._map.answers(question, texts, **settings)
         with progress("matching", self._total) as advance:
             for message, found in zip(messages, answers, strict=True):
                 answer = message.answer(found)

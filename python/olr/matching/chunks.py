@@ -11,7 +11,6 @@ from olr.matching.rows import AnswerRows, Extent, Located, PieceRows, Row, Rows,
 from olr.matching.tables import values_of
 from olr.model.answers import AnswerOrFault, Candidates, Page, Places
 from olr.model.fault import Fault
-from olr.model.reference import read_reference
 
 Item = TypeVar("Item")
 Counted = Candidates | Fault | None
@@ -25,8 +24,6 @@ class Answered(NamedTuple, Generic[Item]):
 
     item: Item
     """What it belongs to, such as a message."""
-    reference: str | None
-    """The text; without it nothing is said of how probable places are."""
     answer: AnswerOrFault
     candidates: Counted = None
 
@@ -42,8 +39,7 @@ class Chunk(Generic[Item]):
         self._counts = [_number_of(one.candidates) for one in answered]
         self.items = [one.item for one in answered]
         self.answers = [_located(one.answer) for one in answered]
-        references = [read_reference(one.reference or "") for one in answered]
-        self.judgements = judged(self.answers, references, network, judging)
+        self.judgements = judged(self.answers, judging)
 
     def cut_off(self) -> int:
         """How many answers may lack a place that would be shown: looking was cut off before."""

@@ -48,9 +48,14 @@ def of_difference(value: "Callable[[Range], float]") -> "Callable[[AnswerRows], 
     return of_first(lambda it: it.map_differs and rounded(value(it.map_differs)))
 
 
-def rounded(probability: float | None) -> float | None:
-    """A probability, or how different maps are, with the digits that are shown."""
-    return None if probability is None else round(probability, DIGITS)
+def rounded(number: float | None, digits: int = DIGITS) -> float | None:
+    """A probability, or another number, with the digits that are shown."""
+    return None if number is None else round(number, digits)
+
+
+def whole(fact: bool | None) -> int | None:
+    """1 for what is so, and 0 for what isn't."""
+    return None if fact is None else int(fact)
 
 
 class Answers:
@@ -82,10 +87,10 @@ class Answers:
     """by how many points its total is worse than the best one"""
     margin = Column("int64", of_rows(lambda it: it.judged and it.judged.margin))
     """the gap of the second place in the program's order, whether it is shown or not"""
-    ends_m = Column("float", of_places(lambda it: round(it.ends, 1)))
+    ends_m = Column("float", of_places(lambda it: rounded(it.ends, 1)))
     """how far the points of the place lie from the proper ends of their lines, all added up, in metres, 50 at most of each point: the start
     of a line, and for the last point its end"""
-    turns_back = Column("int64", of_places(lambda it: int(it.turns_back)))
+    turns_back = Column("int64", of_places(lambda it: whole(it.turns_back)))
     """1 if the route of the place turns back, which with the usual bans is at a dead end, else 0"""
     members = Column("int64", of_places(lambda it: it.place.members))
     """how many matchings are this place"""

@@ -15,8 +15,8 @@ with needed_by("olr.to_geodataframe", "geo"):
 
     from olr.confidence.confidence import Confidence
     from olr.confidence.judged import Judging
+    from olr.confidence.shown import Shown
     from olr.geometry.network import Network
-    from olr.likely.order import Shown
     from olr.matching.chunks import Answered, Counted, chunks_of
     from olr.matching.columns import ANSWERS, PIECES
     from olr.matching.rows import Extent, Located, Rows, require_extent
@@ -35,11 +35,10 @@ def to_geodataframe(
     part: Extent = "outer",
     candidates: Iterable[Counted] | None = None,
     confidence: "Confidence | None" = None,
-    references: Iterable[str] | None = None,
     within: int | None = None,
     most: int | None = None,
 ) -> "geopandas.GeoDataFrame":
-    """A row for each matching of pages, and for each place of answers to `places`, the likeliest one first, in metres and degrees
+    """A row for each matching of pages, and for each place of answers to `places`, in the order of the answers, in metres and degrees
     (EPSG:4326).
 
     The geometry is the line of the outer or the inner part; of a point along a line it is the point halfway between its two places.
@@ -47,10 +46,11 @@ def to_geodataframe(
     which there have to be as many as answers, and else counts answers from 0. `candidates` are the answers to that question about
     the same references: without them nobody knows how many there are. Sources and names are those of `network.sources()`.
 
-    Places have probabilities by `confidence`, one of the same tolerances such as `olr.Confidence.default()`, and their `references`, the texts
-    that were asked; without either these columns are empty. They are those of `olr-tools match --places` if the answers have its list: all
-    places, by `within=14620, most=100`. Then `within` and `most` here say which of them are shown, as those options of the command do; where
-    either is given the other one is at its default.
+    The columns of places are those of `olr-tools match --places` if the answers are asked for as it does: by `within=14620, most=100,
+    order="likely", detail=True`. Then `within` and `most` here say which of them are shown, as those options of the command do; where either is
+    given the other one is at its default. Probabilities are by `confidence`, one of the same tolerances such as `olr.Confidence.default()`;
+    without it these columns are empty. Without `order="likely"` `likely` is empty, and `rank` is the number in the answer; without `detail`
+    `ends_m` and `turns_back` are empty.
 
     >>> import olr
     >>> with olr.Map("examples") as town:
@@ -66,12 +66,13 @@ def to_geodataframe(
 
     The columns and their types are the same whatever is in them: `Int64`, `float64`, or `object` with texts or None. Raises
     `MapRefused` if the network is of another version of the map than an answer, `ToolError` if it hasn't a line of one, `ValueError`
-    if there are more keys than answers or fewer, or the part is another one, and `TypeError` for one answer or one key in place of many.
+    if there are more keys than answers or fewer, the part is another one, or places were asked for otherwise than a `confidence` needs,
+    and `TypeError` for one answer or one key in place of many.
     """
     require_extent(part)
     _require_network("to_geodataframe", network)
     asked: list[Mapping[str, Any]] = []
-    answered = _answered("to_geodataframe", asked, answers, keys, references, candidates)
+    answered = _answered("to_geodataframe", asked, answers, keys, candidates)
     chunks = chunks_of(answered, network, Judging(confidence, _shown(within, most)))
     return _table(((one.items, one.rows(part)) for one in chunks), ANSWERS, keys is None, asked)
 
@@ -118,14 +119,13 @@ def _answered(
     asked: list[Mapping[str, Any]],
     answers: Iterable[Located],
     keys: Iterable[object] | None,
-    references: Iterable[str] | None = None,
     candidates: "Iterable[Counted] | None" = None,
 ) -> "Iterator[Answered[object]]":
     """Answers with what was given of each; without keys they are counted. `asked` gets each `asked_with` of them once. Raises `TypeError` for one
     in place of many, and `ValueError` where there are more or fewer."""
     if isinstance(answers, (Page, Places, Fault)):
         raise TypeError(f"{call} takes many answers, not one: give a list of it")
-    others = {"keys": keys, "references": references, "candidates": candidates}
+    others = {"keys": keys, "candidates": candidates}
     for name, items in others.items():
         if items is not None:
             many(f"{call} takes many {name}", items, "give a list, with one for each answer")
@@ -133,11 +133,11 @@ def _answered(
     given = {name: items for name, items in columns.items() if items is not None}
     for number, values in enumerate(zip(*given.values(), strict=True)):
         one: dict[str, Any] = {"keys": number} | dict(zip(given, values))
-        text, counted, answer = one.get("references"), one.get("candidates"), one["answers"]
+        answer = one["answers"]
         known = answer.asked_with if isinstance(answer, AboutReference) else None
         if known is not None and known not in asked:
             asked.append(known)
-        yield Answered(one["keys"], text, answer, counted)
+        yield Answered(one["keys"], answer, one.get("candidates"))
 
 
 def _table(

@@ -9,6 +9,7 @@ from olr.extras import needed_by
 from olr.messages.message import Base64
 from olr.messages.texts import plain_base64, require_base64
 from olr.model.fault import Fault
+from olr.model.questions import LIST
 from olr.progress import watched
 
 with needed_by("olr.locate", "geo"):
@@ -17,7 +18,6 @@ with needed_by("olr.locate", "geo"):
 
     from olr.confidence.choosing import judging_with
     from olr.confidence.confidence import Confidence
-    from olr.likely.long_list import LIST
     from olr.matching.columns import ANSWERS
     from olr.matching.geodataframe import ASKED_WITH, CRS, to_geodataframe
     from olr.matching.kept_columns import kept_name
@@ -78,8 +78,8 @@ def locate(
     texts = [plain_base64(cell, base64) if isinstance(cell, str) else "" for cell in cells]
     with opened(map) as asked:
         sure = judging_with(confidence, asked.tolerances, {}).judging.confidence
-        answers: Iterator[Located] = (
-            asked.answers("places", texts, within=LIST["within"], most=LIST["most"])
+        answers: Iterator[Any] = (
+            asked.answers("places", texts, **LIST)
             if places
             else asked.answers("match", texts, page=1)
         )
@@ -90,7 +90,6 @@ def locate(
                 part=part,
                 candidates=asked.answers("candidates", texts),
                 confidence=sure,
-                references=texts,
                 most=1,
             )
     kept = pandas.DataFrame(table).rename(columns=_kept_names(table, columns.values()))

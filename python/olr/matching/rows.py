@@ -50,7 +50,7 @@ class Row(NamedTuple):
     """How many all points of the reference have together, if that is known."""
     verdict: str
     judged: Judged | None = None
-    """The answer in the likely order, if it is one to `places`."""
+    """The answer as it is judged, if it is one to `places`."""
     rank: int | None = None
     gap: int | None = None
     matching: Matching | None = None
@@ -77,8 +77,8 @@ def rows_of(
     candidates: Sequence[int | None],
     network: Network,
 ) -> list[Row]:
-    """A row for each matching of pages, and for each place of answers to `places` that is shown, the likeliest one first; one for an answer
-    that has none. Raises `MapRefused` if the network is of another version of the map than an answer.
+    """A row for each matching of pages, and for each place of answers to `places` that is shown, in their order; one for an answer that has
+    none. Raises `MapRefused` if the network is of another version of the map than an answer.
     """
     rows = [
         row

@@ -1,14 +1,14 @@
 """The answers of `olr`, with the names of its JSON. Names that are words of Python end with `_`: `class_`, `from_`, `not_`.
 
-Lengths and positions on lines are in decimetres, distances in centimetres, coordinates in microdegrees. What isn't there is None.
-docs/specification has what each of them means.
+Lengths and positions on lines are in decimetres, distances in centimetres, coordinates in microdegrees. What isn't there is None, and so is
+what is said with `detail=True` or `order="likely"` alone, where it wasn't asked for. docs/specification has what each of them means.
 """
 
 from collections.abc import Iterator, Mapping, Sequence
 from dataclasses import dataclass
 from typing import Any, Literal, TypeVar
 
-from olr.model.display import Displayed, Point, counted, plain
+from olr.model.display import Displayed, Point, asked_for, counted, plain
 from olr.model.fault import Fault
 from olr.model.pieces import Pieces, Place
 
@@ -92,12 +92,35 @@ class Reference(Displayed):
 
 
 @dataclass(frozen=True)
+class PenaltyParts:
+    """What the penalty of a candidate is the sum of, in penalty points: what it costs that the point lies beside the line, and that their
+    directions, classes and forms differ."""
+
+    bearing: int
+    class_: int
+    distance: int
+    form: int
+
+
+@dataclass(frozen=True)
 class Candidate:
-    """A line on which a point may lie, and where."""
+    """A line on which a point may lie, and where: the position in decimetres, the penalty in points. From `parts` on all is None but with
+    `detail`."""
 
     at: int
     line: int
     penalty: int
+    parts: PenaltyParts | None = asked_for()
+    distance: int | None = asked_for()
+    """From the point to the line, in centimetres."""
+    sectors: int | None = asked_for()
+    """By how many sectors of 11.25 degrees the directions differ, 0 to 16."""
+    classes: int | None = asked_for()
+    """By how many the classes differ."""
+    form: int | None = asked_for()
+    """That of the line."""
+    end: int | None = asked_for()
+    """How far it lies from the proper end of its line, in decimetres: from the start, and for the last point from the end."""
 
 
 @dataclass(frozen=True, repr=False)
@@ -112,6 +135,11 @@ class Candidates(AboutReference):
     <Candidates: 3 points, 1 + 2 + 2 lines>
     >>> found.points[0][0]
     Candidate(at=13, line=104, penalty=3)
+    >>> with olr.Map("examples") as town:
+    ...     found = town.candidates("CwVF/yN2yRpnBAFUAAgbpwYBAf9kK0Fa", detail=True)
+    ...
+    >>> found.points[0][0].distance / 100, found.points[0][0].parts.class_
+    (2.57, 0)
     """
 
     points: tuple[tuple[Candidate, ...], ...]
@@ -130,10 +158,15 @@ class Candidates(AboutReference):
 
 @dataclass(frozen=True)
 class Leg:
-    """The path from one point to the next one."""
+    """The path from one point to the next one: its length in decimetres, its penalty in points. The others are None but with `detail`."""
 
     length: int
     penalty: int
+    least: int | None = asked_for()
+    """The least length that the reference tells, in decimetres, without tolerances; and so the `greatest` one."""
+    greatest: int | None = asked_for()
+    limit: int | None = asked_for()
+    """The greatest class that its lines may have."""
 
 
 @dataclass(frozen=True, repr=False)
@@ -160,6 +193,10 @@ class Matching(Displayed):
     earliest: Place | None = None
     """Of a point along a line, as `latest`; None for a line."""
     latest: Place | None = None
+    cost: int | None = asked_for()
+    """The likely cost, in thirtieths of a penalty point. None but with `detail`, as `turns_back`."""
+    turns_back: bool | None = asked_for()
+    """Whether the route goes from a line to one that leads back along it."""
 
     def _absent(self) -> Sequence[str]:
         return ("earliest", "latest") if self.earliest is None else ("outer", "inner")
@@ -240,6 +277,10 @@ class PlaceOfReference(Displayed):
     gap: int
     matching: Matching
     members: int
+    rank: int | None = asked_for()
+    """By totals, from 1, among all places that were looked at. None but in the likely order, as `cost`."""
+    cost: int | None = asked_for()
+    """The likely cost, in thirtieths of a penalty point."""
 
     def _summary(self) -> str:
         return f"gap {self.gap}, {counted(self.members, 'matching')}, {self.matching._summary()}"
@@ -273,6 +314,8 @@ class Places(AboutReference):
     verdict: Literal["unique", "ambiguous", "open", "none"]
     margin: int | None = None
     next: str | None = None
+    cut: bool | None = asked_for()
+    """Whether looking ended before a place that might be among them. None but in the likely order."""
 
     def __len__(self) -> int:
         return len(self.places)

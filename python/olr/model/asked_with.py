@@ -7,7 +7,7 @@ from typing import Any, NamedTuple
 
 from olr.model.map_folder import store_of
 from olr.model.profiles import PROFILE, as_arguments, other_profile, others_than, resolved
-from olr.model.questions import ALL, NUMBERS, TOLERANCES, What
+from olr.model.questions import ALL, NUMBERS, TOLERANCES, Setting, What, all_words, defaults_of
 
 
 def numbers_text(profile: str, tolerances: Mapping[str, int], numbers: Mapping[str, int]) -> str:
@@ -46,20 +46,17 @@ def name_for_program(folder: Path) -> str | None:
 
 
 def command_text(
-    question: What, reference: str, map_name: str | None, numbers: Mapping[str, int]
+    question: What, reference: str, map_name: str | None, settings: Mapping[str, Setting]
 ) -> str:
-    """The command of `olr` that asks about a reference so, for a shell: with the numbers of the question and the tolerances that aren't the
-    program's defaults, by the names of its options. An empty text if the program doesn't read the map.
+    """The command of `olr` that asks about a reference so, for a shell: with the numbers and options of the question and the tolerances that
+    aren't the program's defaults. An empty text if the program doesn't read the map.
     """
     if map_name is None:
         return ""
-    known = {**TOLERANCES, **NUMBERS[question]}
+    usual = {name: number.default for name, number in TOLERANCES.items()} | defaults_of(question)
+    others = {name: settings[name] for name, it in usual.items() if settings.get(name, it) != it}
     words = ["olr", question, reference.strip(), "--map", map_name]
-    for name, number in known.items():
-        value = numbers.get(name, number.default)
-        if value != number.default:
-            words += [f"--{name}", str(value)]
-    return shlex.join(words)
+    return shlex.join([*words, *all_words(others)])
 
 
 class Asking(NamedTuple):

@@ -8,7 +8,7 @@ import math
 from abc import abstractmethod
 from collections.abc import Iterable, Mapping, Sequence
 from contextlib import suppress
-from dataclasses import fields, is_dataclass
+from dataclasses import field, fields, is_dataclass
 from html import escape
 from itertools import groupby
 from typing import Any, Protocol
@@ -102,10 +102,18 @@ class Displayed:
         return ()
 
 
+def asked_for() -> Any:
+    """A field that is None, and no member of the program's JSON, where it wasn't asked for."""
+    return field(default=None, repr=False, metadata={"asked_for": True})
+
+
 def plain(value: Any) -> Any:
     """A value of an answer as dicts and lists, with the names of the program's JSON."""
     if is_dataclass(value):
-        hidden = value._absent() if isinstance(value, Displayed) else ()
+        hidden = set(value._absent()) if isinstance(value, Displayed) else set()
+        hidden |= {
+            it.name for it in fields(value) if it.metadata and getattr(value, it.name) is None
+        }
         names = sorted(one.name for one in fields(value) if one.name not in hidden)
         return {name.removesuffix("_"): plain(getattr(value, name)) for name in names}
     if isinstance(value, (tuple, Late)):

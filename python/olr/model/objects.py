@@ -16,6 +16,7 @@ from olr.model.answers import (
     NearLine,
     Page,
     Pair,
+    PenaltyParts,
     PlaceOfReference,
     Places,
     Reference,
@@ -73,9 +74,16 @@ def _pieces(number: int | None, lists: Lists) -> Pieces | None:
     return None if number is None else Pieces(lists.texts[number], lists.digest)
 
 
+def _points(found: Sequence[Json]) -> tuple[Candidate, ...]:
+    if found and "parts" in found[0]:
+        for one in found:
+            one["parts"] = _made(PenaltyParts, _renamed(one["parts"]))
+    return _all_made(Candidate, found)
+
+
 def _matching(found: Json, lists: Lists) -> Matching:
     found["legs"] = _all_made(Leg, found["legs"])
-    found["points"] = _all_made(Candidate, found["points"])
+    found["points"] = _points(found["points"])
     found["route"] = Pieces(lists.texts[found["route"]], lists.digest)
     if "outer" in found:
         found["outer"] = _pieces(found["outer"], lists)
@@ -102,13 +110,12 @@ def _page(found: Json, lists: Lists) -> Page:
 
 
 def _candidates(found: Json, _: Lists) -> Candidates:
-    points = [tuple([_made(Candidate, one) for one in point]) for point in found["points"]]
-    return Candidates(tuple(points))
+    return Candidates(tuple(map(_points, found["points"])))
 
 
 def _places(found: Json, lists: Lists) -> Places:
     listed = tuple(
-        PlaceOfReference(one["gap"], _matching(one["matching"], lists), one["members"])
+        PlaceOfReference(**one | {"matching": _matching(one["matching"], lists)})
         for one in found["places"]
     )
     return Places(**_renamed(found, places=listed))
@@ -154,6 +161,7 @@ def reference(text: bytes) -> Reference:
 _BEGINNINGS: Mapping[bytes, What] = {
     b'{"points"': "candidates",
     b'{"matchings"': "match",
+    b'{"cut"': "places",
     b'{"looked"': "places",
     b'{"legs"': "why",
 }

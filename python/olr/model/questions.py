@@ -11,6 +11,8 @@ from typing import Any, Literal, NamedTuple, TypeVar
 from olr.model.fault import Fault
 
 What = Literal["candidates", "match", "places", "why"]
+Setting = int | str
+"""A number, or what an option is: a word, or whether it is given."""
 Item = TypeVar("Item")
 
 
@@ -105,6 +107,45 @@ NUMBERS: dict[What, dict[str, Number]] = {
 ALL = ChainMap(TOLERANCES, *NUMBERS.values())
 """The table of all numbers. What asks, shows or checks one is made of its row: options of commands, of addresses and of the page, arguments in
 Python, and what is said of them."""
+
+
+class Option(NamedTuple):
+    """What else can be set than a number: a word, which is the first one where it is left out; or, without words, whether it is given."""
+
+    of: tuple[What, ...]
+    """The questions that have it."""
+    purpose: str
+    words: tuple[str, ...] = ()
+
+    @property
+    def default(self) -> str | bool:
+        """What it is where it is left out."""
+        return self.words[0] if self.words else False
+
+    def wanted_text(self, name: str) -> str:
+        """What an option of that name is, for what isn't one."""
+        return f"{name} is {' or '.join(self.words or ('True', 'False'))}"
+
+
+OPTIONS = {
+    "order": Option(
+        ("places",),
+        "sort places by their totals, or by how likely the sender meant them",
+        ("total", "likely"),
+    ),
+    "detail": Option(
+        ("candidates", "match", "places"), "say what speaks for and against each matching too"
+    ),
+}
+"""What else a question can be asked with, likewise. The program gets the words of those alone that aren't at their defaults."""
+LIST: Mapping[str, Setting] = {
+    "within": NUMBERS["places"]["within"].greatest,
+    "most": NUMBERS["places"]["most"].greatest,
+    "order": "likely",
+    "detail": True,
+}
+"""How the places are asked for that are shown or judged: all of them, up to 100, the likeliest one first. So what is shown of the list doesn't
+depend on its length, unless looking was cut off."""
 BLANKS = " \t\r\n"
 CURSOR = re.compile("[0-9.:]+(@[0-9a-f]{64})?")
 """What a cursor looks like: of such texts the program says which is one."""
@@ -196,22 +237,62 @@ def all_tolerances(given: Mapping[str, int], others: Mapping[str, int]) -> dict[
     return {name: given.get(key, others[name]) for key, name in names.items()}
 
 
-def words_of(what: What, given: Mapping[str, int]) -> list[str]:
-    """The words of all numbers of a question: those that were given, and the others as they are where they are left out. Raises
-    `ValueError` for what is no question, `TypeError` for a number that it doesn't have, and as `number_words`.
+def option_words(name: str, value: object) -> list[str]:
+    """The words of an option: none where it is at its default. Raises `TypeError` for another type than it has, and `ValueError` for a word
+    that isn't one of it."""
+    known = OPTIONS[name]
+    wanted = f"{known.wanted_text(name)}, not {value!r}"
+    if not isinstance(value, type(known.default)):
+        raise TypeError(wanted)
+    if known.words and value not in known.words:
+        raise ValueError(wanted)
+    if value == known.default:
+        return []
+    return [f"--{name}", str(value)] if known.words else [f"--{name}"]
+
+
+def options_for(what: What) -> dict[str, Option]:
+    """The options of a question."""
+    return {name: option for name, option in OPTIONS.items() if what in option.of}
+
+
+def defaults_of(what: What) -> dict[str, Setting]:
+    """What all numbers of a question besides the tolerances, and its options, are where they are left out."""
+    found: dict[str, Setting] = {name: it.default for name, it in NUMBERS[what].items()}
+    return found | {name: it.default for name, it in options_for(what).items()}
+
+
+def listing(settings: Mapping[str, Setting]) -> dict[str, Setting]:
+    """As what `places` are asked with is set, but for all of them."""
+    return {**settings, **LIST}
+
+
+def settings_of(what: What, given: Mapping[str, Setting]) -> dict[str, Setting]:
+    """All numbers of a question besides the tolerances, those that weren't given at their defaults, and the options that were given."""
+    numbers = {name: given.get(name, number.default) for name, number in NUMBERS[what].items()}
+    return numbers | {name: given[name] for name in options_for(what) if name in given}
+
+
+def words_of(what: What, given: Mapping[str, Setting]) -> list[str]:
+    """The words of all numbers of a question: those that were given, and the others as they are where they are left out; and those of
+    options. Raises `ValueError` for what is no question, `TypeError` for what it doesn't have, and as `number_words` and `option_words`.
     """
     if what not in NUMBERS:
         raise ValueError(f"{what!r} is no question: ask {', '.join(NUMBERS)}")
-    numbers = NUMBERS[what]
+    names = [*NUMBERS[what], *options_for(what)]
     for name in given:
-        if name not in numbers:
-            raise TypeError(f"{what} has no number {name}: it has {', '.join(numbers) or 'none'}")
-    return all_words({name: given.get(name, number.default) for name, number in numbers.items()})
+        if name not in names:
+            raise TypeError(f"{what} has no {name}: it has {', '.join(names)}")
+    return all_words(settings_of(what, given))
 
 
-def all_words(numbers: Mapping[str, int]) -> list[str]:
-    """The words of numbers, by their names. Raises as `number_words`."""
-    return [word for name, value in numbers.items() for word in number_words(name, value)]
+def all_words(settings: Mapping[str, Any]) -> list[str]:
+    """The words of numbers and options, by their names. Raises as `number_words` and `option_words`."""
+    return [
+        word
+        for name, value in settings.items()
+        for word in (option_words if name in OPTIONS else number_words)(name, value)
+    ]
 
 
 def cursor_of(text: str) -> str:

@@ -16,7 +16,7 @@ from olr.asking.processes import Processes
 from olr.asking.records import Record
 from olr.errors import ToolError
 from olr.model.fault import TOO_LARGE
-from olr.model.questions import What, all_words
+from olr.model.questions import Setting, What, all_words
 from olr.model.reference import read_points
 from olr.regions.options import Options
 from olr.regions.sharing import groups_of
@@ -57,13 +57,13 @@ class Job:
         return self.question.what
 
     @property
-    def numbers(self) -> Mapping[str, int]:
-        """Its tolerances and other numbers, by their names."""
+    def settings(self) -> Mapping[str, Setting]:
+        """Its tolerances, other numbers and options, by their names."""
         return self.question.options
 
     def asked(self) -> Asked:
         """What the program is asked."""
-        return Asked(self.what, tuple(all_words(self.numbers)))
+        return Asked(self.what, tuple(all_words(self.settings)))
 
 
 Missing = tuple[Part, Group]
@@ -210,7 +210,7 @@ class _Answering:
         """Writes the lines of records. Raises `ToolError` and `OSError`."""
         points = [read_points(record.text().decode("latin-1")) for record in records]
         none = {record.number for record, read in zip(records, points) if read is None}
-        options = Options.of(self._job.numbers)
+        options = Options.of(self._job.asked().numbers())
         with self._file.open("wb+") as stream:
             for group in groups_of(points, options, self._store, self._job.what):
                 some = [records[number] for number in group.numbers]

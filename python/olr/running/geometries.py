@@ -93,4 +93,4 @@ def _answered(
         message = Message(record, key, reference)
         if notes is not None:
             message = notes.noted(message)
-        yield Answered(message, reference, message.answer(answer))
+        yield Answered(message, message.answer(answer))

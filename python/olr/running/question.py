@@ -6,7 +6,7 @@ from typing import Any
 
 from olr.content import Content
 from olr.messages.message import KEY, REF, Base64, Format
-from olr.model.questions import NUMBERS, TOLERANCES, What
+from olr.model.questions import TOLERANCES, Setting, What, settings_of
 from olr.running.identity import Build
 
 
@@ -20,8 +20,8 @@ class Question:
     """The digest of the map, which is a store or a folder."""
     program: Build
     what: What
-    options: Mapping[str, int]
-    """All tolerances and other numbers, by their names."""
+    options: Mapping[str, Setting]
+    """All tolerances and other numbers, by their names, and the options that were given."""
     per_group: int | None = None
     """The most records of a group, or None for as many as there usually are of so many records."""
     format: Format = "tab"
@@ -36,7 +36,7 @@ class Question:
         return {name: table[name] for name in ("store", "program", "what", "options")}
 
 
-def all_numbers(what: What, given: Mapping[str, int]) -> dict[str, int]:
-    """The tolerances and the other numbers of a question, those that weren't given at their defaults."""
-    numbers = {**TOLERANCES, **NUMBERS[what]}
-    return {name: given.get(name, number.default) for name, number in numbers.items()}
+def all_settings(what: What, given: Mapping[str, Setting]) -> dict[str, Setting]:
+    """The tolerances and the other numbers of a question, those that weren't given at their defaults, and the options that were given."""
+    tolerances = {name: given.get(name, number.default) for name, number in TOLERANCES.items()}
+    return tolerances | settings_of(what, given)

@@ -184,7 +184,8 @@ class _Answers:
 
     def rows(self) -> Streaming:
         """The rows of the page's list."""
-        return Streaming(self._limits, "places", partial(self._rows.lines, "rows"))
+        lines = partial(self._rows.lines, "rows")
+        return Streaming(self._limits, "places", lines, numbers_alone=True)
 
     async def show(self, request: Request) -> Response:
         """What a reference says."""

@@ -40,7 +40,7 @@ def write(task: FeaturesTask, network: Network, file: BufferedRandom) -> None:
         assert isinstance(found, Candidates)
         counted = found
     answer = read_answer(what, task.answer, digest)
-    asked = chunks.Answered(None, task.reference, answer, counted)
+    asked = chunks.Answered(None, answer, counted)
     rows = Chunk([asked], network, _judging_of(task.judged_by)).rows()
     stream = TextIOWrapper(file, encoding="utf-8", newline="")
     written = GeoJson(stream, what)
@@ -69,11 +69,10 @@ def _judging_of(judged_by: JudgedBy) -> Judging:
 
 def _answered(one: Answered, network: Network, what: What) -> chunks.Answered[Message]:
     record = one.record
-    text = record.text().decode()
-    message = Message(record.number, record.key(), text)
+    message = Message(record.number, record.key(), record.text().decode())
     fault = record.fault() or one.fault
     if fault is not None:
-        return chunks.Answered(message, text, Fault(fault))
+        return chunks.Answered(message, Fault(fault))
     if len(one.answer) > MOST_ANSWER:
-        return chunks.Answered(message, text, TOO_LARGE)
-    return chunks.Answered(message, text, read_answer(what, one.answer, network.digest))
+        return chunks.Answered(message, TOO_LARGE)
+    return chunks.Answered(message, read_answer(what, one.answer, network.digest))

@@ -58,7 +58,7 @@ class Features(NamedTuple):
         async def ask(asking: Asking) -> IO[bytes]:
             answer = await asking.answer(asked)
             candidates = await asking.answer_or_fault(_candidates(question))
-            task = FeaturesTask(judged_by, question.text.decode(), answer, candidates)
+            task = FeaturesTask(judged_by, answer, candidates)
             return await self.makers.made(asking.map(), task)
 
         return await of_one_edition(self.served, ask)

@@ -1,8 +1,7 @@
 """Questions to `places` whose answers are judged: a long list is asked for, of which a part is shown."""
 
 from olr.asking.exchange import Asked
-from olr.likely.long_list import listing
-from olr.model.questions import all_words
+from olr.model.questions import all_words, listing
 
 
 def listing_of(asked: Asked) -> Asked:

@@ -8,11 +8,12 @@ from collections.abc import Collection, Iterable, Mapping
 from olr.messages.message import BASE64
 from olr.model.answers import Reference
 from olr.model.profiles import DEFAULT_PROFILE, PROFILE, PROFILES, about_text, tolerances_of
-from olr.model.questions import NUMBERS, TOLERANCES, Number, What
+from olr.model.questions import NUMBERS, TOLERANCES, Number, What, options_for
 from olr.serving import features, listing, lists, meters, posted, problems, streaming
 from olr.serving.limits import Limits
 from olr.serving.queries import AFTER, REF, numbers_of
 from olr.serving.schemas import (
+    BOOLEAN,
     OF_QUESTION,
     TEXT,
     Json,
@@ -103,7 +104,7 @@ def _operation(method: str, name: str, gets: Collection[str]) -> str:
 
 
 def _question(what: What, limits: Limits) -> Json:
-    parameters = [*_own(what), *_numbers(what, limits)]
+    parameters = [*_own(what), *_settings(what, limits)]
     return _cached(_address(SUMMARIES[what], parameters, _answers(what)))
 
 
@@ -129,8 +130,7 @@ def _answers(what: What) -> Json:
 
 def _posted(what: What, limits: Limits) -> Json:
     """A question about one reference, or a few, as JSON."""
-    numbers = _numbers(what, limits)
-    options = {it["name"]: _described(it) for it in numbers}
+    options = {it["name"]: _described(it) for it in _settings(what, limits)}
     refs = {"type": "array", "items": TEXT, "maxItems": posted.MOST_REFS}
     own = {it["name"]: _described(it) for it in _own(what)}
     one = object_of(own | options, "A reference", (AFTER, *options))
@@ -198,7 +198,7 @@ def _health(summary: str, refusals: Mapping[str, str]) -> Json:
 
 def _batch(what: What, limits: Limits) -> Json:
     summary = f"{SUMMARIES[what]}: a line for each line"
-    return _lines(summary, _numbers(what, limits), limits, _batch_lines(what))
+    return _lines(summary, _settings(what, limits), limits, _batch_lines(what))
 
 
 def _lines(summary: str, parameters: list[Json], limits: Limits, answers: Json) -> Json:
@@ -239,6 +239,15 @@ def _messages(limits: Limits) -> Json:
 def _reference() -> Json:
     text = "a reference: the text of its binary format, in base64. A plus sign may stand as it is"
     return _parameter(REF, TEXT, text) | {"required": True, "example": EXAMPLE}
+
+
+def _settings(what: What, limits: Limits) -> list[Json]:
+    """All options of a question but the reference and a cursor."""
+    found = _numbers(what, limits)
+    for name, option in options_for(what).items():
+        kind: Json = TEXT | {"enum": list(option.words)} if option.words else BOOLEAN
+        found.append(_parameter(name, kind | {"default": option.default}, option.purpose))
+    return found
 
 
 def _numbers(what: What, limits: Limits) -> list[Json]:

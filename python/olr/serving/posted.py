@@ -8,7 +8,7 @@ from typing import Any, NamedTuple
 
 from olr.asking.records import Record
 from olr.model.profiles import PROFILE
-from olr.model.questions import NO_LETTER, record_text
+from olr.model.questions import NO_LETTER, OPTIONS, record_text
 from olr.serving.limits import Limits
 from olr.serving.problems import Problem, bad_request, busy
 from olr.serving.queries import AFTER, REF, Options
@@ -19,8 +19,11 @@ MOST_REFS = 100
 """References in one body: for more there are streams, whose answers begin before the last one came."""
 MOST_BYTES = 65_536
 """Of such a body. A hundred references have 34,400."""
-TEXTS = (REF, AFTER, PROFILE)
-"""Options that are texts; all others are numbers."""
+TYPES = dict.fromkeys((REF, AFTER, PROFILE), str) | {
+    name: type(option.default) for name, option in OPTIONS.items()
+}
+"""The types of options that aren't whole numbers."""
+NAMES = {str: "a text", int: "a whole number", bool: "true or false"}
 
 
 class Posted(NamedTuple):
@@ -91,9 +94,10 @@ def _members(pairs: Sequence[tuple[str, Any]]) -> dict[str, Any]:
 
 def _text(name: str, value: Any) -> str:
     """The value of an option as a URL has it. Raises `Problem` for one of another type."""
-    if type(value) is not (str if name in TEXTS else int):
-        raise bad_request(f"{name!r} is a {'text' if name in TEXTS else 'whole number'}")
-    return str(value)
+    wanted = TYPES.get(name, int)
+    if type(value) is not wanted:
+        raise bad_request(f"{name!r} is {NAMES[wanted]}")
+    return str(value).lower() if wanted is bool else str(value)
 
 
 def records_of(refs: Sequence[str]) -> list[Record]:

@@ -10,11 +10,22 @@ from urllib.parse import unquote_to_bytes
 from olr.asking.exchange import Asked
 from olr.model.fault import Fault
 from olr.model.profiles import DEFAULT_PROFILE, PROFILE, PROFILES, names_text, tolerances_of
-from olr.model.questions import ALL, NUMBERS, Number, What, all_words, cursor_of, record_text
+from olr.model.questions import (
+    ALL,
+    NUMBERS,
+    OPTIONS,
+    Number,
+    What,
+    all_words,
+    cursor_of,
+    options_for,
+    record_text,
+)
 from olr.serving.problems import bad_request, of_fault
 
 REF, AFTER = "ref", "after"
 NUMBER = re.compile("[0-9]{1,7}", re.ASCII)
+FLAGS = ("false", "true")
 MOST_ASKED = 1024
 """So many combinations of options are remembered."""
 
@@ -73,9 +84,12 @@ def reference_of(options: Options) -> str:
         raise bad_request("ref is missing: the text of a reference, in base64") from None
 
 
-def asked_of(what: What, options: Mapping[str, str], most_look: int) -> Asked:
-    """What the options of an address ask for. Raises `Problem` for one that isn't one, or is out of its range."""
-    return _asked(what, tuple(options.items()), most_look)
+def asked_of(
+    what: What, options: Mapping[str, str], most_look: int, numbers_alone: bool = False
+) -> Asked:
+    """What the options of an address ask for: one may have those of a question that are numbers alone. Raises `Problem` for one that isn't one,
+    or is out of its range."""
+    return _asked(what, tuple(options.items()), most_look, numbers_alone)
 
 
 def numbers_of(what: What, most_look: int) -> dict[str, Number]:
@@ -85,22 +99,28 @@ def numbers_of(what: What, most_look: int) -> dict[str, Number]:
 
 
 @lru_cache(maxsize=MOST_ASKED)
-def _asked(what: What, options: tuple[tuple[str, str], ...], most_look: int) -> Asked:
+def _asked(
+    what: What, options: tuple[tuple[str, str], ...], most_look: int, numbers_alone: bool
+) -> Asked:
     given = dict(options)
     profile = given.pop(PROFILE, DEFAULT_PROFILE)
     if profile not in PROFILES:
         raise bad_request(f"{profile!r} is no profile: {names_text()}")
     admitted = numbers_of(what, most_look)
     numbers = tolerances_of(profile) | {name: it.default for name, it in admitted.items()}
+    others = {} if numbers_alone else {name: it.default for name, it in options_for(what).items()}
     for name, value in given.items():
-        if name not in numbers:
-            known = [REF, *([AFTER] if what == "match" else []), PROFILE, *numbers]
+        if name in numbers:
+            numbers[name] = _number(name, value)
+        elif name in others:
+            others[name] = _other(name, value)
+        else:
+            known = [REF, *([AFTER] if what == "match" else []), PROFILE, *numbers, *others]
             raise bad_request(f"{name!r} is no option of /{what}: it has {', '.join(known)}")
-        numbers[name] = _number(name, value)
     for name, number in admitted.items():
         if numbers[name] > number.greatest:
             raise bad_request(f"{name} is {number.greatest:,} at most on this server")
-    return Asked(what, tuple(all_words(numbers)))
+    return Asked(what, tuple(all_words({**numbers, **others})))
 
 
 def _number(name: str, value: str) -> int:
@@ -109,6 +129,14 @@ def _number(name: str, value: str) -> int:
     if not NUMBER.fullmatch(value) or not number.least <= int(value) <= number.greatest:
         raise bad_request(number.wanted_text(name))
     return int(value)
+
+
+def _other(name: str, value: str) -> str | bool:
+    """What an option is that is no number: one of its words, or `true` or `false`. Raises `Problem`."""
+    words = OPTIONS[name].words
+    if value not in (words or FLAGS):
+        raise bad_request(f"{name} is {' or '.join(words or FLAGS)}")
+    return value if words else value == FLAGS[True]
 
 
 def require_no_options(options: Options) -> None:

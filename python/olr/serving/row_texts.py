@@ -8,11 +8,10 @@ from olr.asking.records import Answered
 from olr.confidence.judged import Judged, judged
 from olr.errors import ProgramEnded
 from olr.geometry.network import Network
-from olr.matching.columns import rounded
+from olr.matching.columns import rounded, whole
 from olr.model.answers import Places
 from olr.model.fault import Fault
 from olr.model.objects import read_answer
-from olr.model.reference import read_reference
 from olr.serving.chosen import chosen_by
 from olr.serving.tasks import JudgedBy
 
@@ -24,11 +23,7 @@ def lines_of(some: Sequence[Answered], network: Network, judged_by: JudgedBy) ->
         answers = [_answer_of(one, network) for one in some]
     except ValueError as error:
         raise ProgramEnded(f"the program wrote what is no answer: {error}") from error
-    references = [
-        read_reference(one.record.text().decode()) if isinstance(answer, Places) else None
-        for one, answer in zip(some, answers)
-    ]
-    judgements = judged(answers, references, network, chosen.judging)
+    judgements = judged(answers, chosen.judging)
     rows = (
         {
             "record": one.record.number,
@@ -63,7 +58,7 @@ def _row(answer: Places | Fault, judgement: Judged | None) -> dict[str, Any]:
         "reasons": None if first is None else first.reasons or None,
         "total": None if first is None else first.place.matching.total,
         "margin": None if judgement is None else judgement.margin,
-        "turns_back": None if first is None else int(first.turns_back),
+        "turns_back": None if first is None else whole(first.turns_back),
         "cut_off": judgement is not None and judgement.is_cut_off,
         "fault": answer.text if isinstance(answer, Fault) else None,
     }

@@ -4,6 +4,7 @@ import json
 from functools import partial
 from typing import TypeVar
 
+from olr.confidence.judged import judged
 from olr.errors import MapRefused
 from olr.model.answers import Answer, Candidates, Matching, Page, Places, Reference, Why
 from olr.model.fault import Fault
@@ -11,7 +12,7 @@ from olr.model.objects import read_answer, reference
 from olr.model.questions import What
 from olr.near_paths.streets import Streets
 from olr.pages.view.notes import notes_of
-from olr.pages.view.scene import Answered, add_command, judgements_of, scene_of_answers
+from olr.pages.view.scene import Answered, add_command, scene_of_answers
 from olr.pages.view.surroundings import box_of
 from olr.serving.chosen import chosen_by
 from olr.serving.ground import Ground
@@ -26,7 +27,7 @@ def text_of(task: SceneTask, ground: Ground) -> bytes:
     network, numbers = ground.network, task.judged_by.asked.numbers()
     chosen = chosen_by(task.judged_by)
     answered = _answered(task, network.digest)
-    (judgement,) = judgements_of([answered], network, chosen.judging)
+    (judgement,) = judged([answered.places], chosen.judging)
     scene = scene_of_answers(answered, network, judgement, chosen.judging.confidence)
     streets = partial(streets_for, task, ground)
     scene |= notes_of(scene, answered, network, numbers["lowest"], streets)

@@ -29,7 +29,7 @@ class Scenes(NamedTuple):
         numbers of `places`. Raises `Fault` if it is no reference, other errors of the package, and `Problem`.
         """
         text = record_text(reference_of(options))
-        asked = asked_of("places", options, self.limits.look)
+        asked = asked_of("places", options, self.limits.look, numbers_alone=True)
         said = await self.served.show(text)
 
         async def ask(asking: Asking) -> IO[bytes]:

@@ -109,7 +109,8 @@ def _of_class(made: type) -> Json:
     members = {it.name.removesuffix("_"): _of_hint(hints[it.name]) for it in fields(made)}
     about, _, _ = (inspect.getdoc(made) or "").partition("\n\n>>>")
     about = re.sub(r": the answer of `[^`]*`", "", " ".join(about.split()))
-    return object_of(members, about, OF_ONE_KIND.get(made, ()))
+    asked_for = [it.name.removesuffix("_") for it in fields(made) if it.metadata]
+    return object_of(members, about, (*OF_ONE_KIND.get(made, ()), *asked_for))
 
 
 def _of_hint(hint: Any) -> Json:
@@ -134,7 +135,8 @@ def _of_hint(hint: Any) -> Json:
             "maxItems": many,
             "description": about,
         }
-    return reference_to(hint.__name__) if is_dataclass(hint) else {int: INTEGER, str: TEXT}[hint]
+    plain = {int: INTEGER, str: TEXT, bool: BOOLEAN}
+    return reference_to(hint.__name__) if is_dataclass(hint) else plain[hint]
 
 
 def _line(made: type) -> Json:

@@ -40,15 +40,22 @@ class Streaming:
     """An address whose answer is lines."""
 
     def __init__(
-        self, limits: Limits, what: What, lines: Lines, headers: Mapping[str, str] = HEADERS
+        self,
+        limits: Limits,
+        what: What,
+        lines: Lines,
+        headers: Mapping[str, str] = HEADERS,
+        numbers_alone: bool = False,
     ) -> None:
-        """Its options are those of the question `what`."""
+        """Its options are those of the question `what`, or those of them that are numbers."""
         self._limits, self._what, self._lines, self._headers = limits, what, lines, headers
+        self._numbers_alone = numbers_alone
 
     async def __call__(self, scope: Scope, receive: Receive, send: Send) -> None:
         """Answers a request. Raises `ToolError` and `Problem` before it has begun to; later it closes the connection."""
         request = Request(scope)
-        asked = asked_of(self._what, options_of(scope["query_string"]), self._limits.look)
+        options = options_of(scope["query_string"])
+        asked = asked_of(self._what, options, self._limits.look, self._numbers_alone)
         _require_type(request)
         self._require_length(request)
         await self._answer(asked, None, scope, receive, send)

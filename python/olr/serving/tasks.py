@@ -44,7 +44,6 @@ class FeaturesTask(NamedTuple):
     """A collection of features, of an answer to `match` or `places`."""
 
     judged_by: JudgedBy
-    reference: str
     answer: bytes
     candidates: bytes | Fault
 

@@ -20,10 +20,10 @@ scripts without a document, one behind the other. Names follow those of Python.
 | file | as in Python |
 |---|---|
 | `exact_json.js`, `numbers.js`, `formats.js` | JSON with long ids, sums and rounding, numbers as texts |
-| `reference.js`, `faults.js`, `asked_with.js` | `olr.model` |
-| `map_files.js`, `network.js`, `pieces.js`, `turning_back.js` | `olr.geometry` |
+| `faults.js`, `asked_with.js` | `olr.model` |
+| `map_files.js`, `network.js`, `pieces.js` | `olr.geometry` |
 | `sources.js` | `olr.model.sources` |
-| `likely.js`, `judging.js`, `rows.js` | `olr.likely`, `olr.confidence`, and rows of a list |
+| `judging.js`, `rows.js` | `olr.confidence`, and rows of a list |
 | `scene.js`, `sentences.js`, `surroundings.js` | `olr.pages.view` |
 | `near_paths.js`, `searching.js`, `streets.js` | `olr.near_paths` |
 | `lists.js`, `list_*.js`, `openlr_*.js` | `olr.messages`: lists of references in all formats |

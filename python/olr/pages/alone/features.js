@@ -1,8 +1,8 @@
 "use strict";
 // Features of GeoJSON with the columns of docs/COLUMNS.md, as the server gives them of many references: to the letter.
 //
-//   featureLine(line, text, network, judging, sources)   the lines about a record (RFC 8142), each with the sign in front and its end. `line` is
-//                                               that of `olr batch places` or `olr batch match`, asked with the long list, `text` the reference
+//   featureLine(line, network, judging, sources)      the lines about a record (RFC 8142), each with the sign in front and its end. `line` is
+//                                               that of `olr batch places`, asked with the `longList` of `tables.py`, or of `olr batch match`
 //   featuresOfPlaces({ record, key, fault, found, candidates }, network, sources)   features of an answer that was judged: `found` is what
 //                                               `judged` gives
 //   featuresOfPage({ record, key, fault, page, candidates }, network, sources)      features of an answer to `match`
@@ -18,13 +18,13 @@ const BEFORE_LINE = "\x1e";
 const FLOATS = new Set("probability none_of_these map_differs map_differs_low map_differs_high ends_m from_m to_m outer_m inner_m".split(" "));
 const NO_PART = { part: null, lines: null, sources: null, names: null, from_m: null, to_m: null, outer_m: null, inner_m: null };
 
-function featureLine(line, text, network, judging, sources = null) {
+function featureLine(line, network, judging, sources = null) {
   const { answer, fault: own, key, record } = exactJson(line);
   const size = line.lastIndexOf(',"fault":') - '{"answer":'.length;
   const fault = own ?? (size > MOST_ANSWER ? "AnswerTooLarge" : null);
   const about = { record, key, fault };
   const isPage = fault === null && answer.matchings !== undefined;
-  const found = fault === null && !isPage ? judged(answer, readReference(text), network, judging) : null;
+  const found = fault === null && !isPage ? judged(answer, judging) : null;
   const features = isPage ? featuresOfPage({ ...about, page: answer }, network, sources) : featuresOfPlaces({ ...about, found }, network, sources);
   return features.map((feature) => `${BEFORE_LINE}${featureText(feature)}\n`).join("");
 }

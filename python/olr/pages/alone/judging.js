@@ -1,94 +1,118 @@
 "use strict";
-// Answers to `places` in the likely order, how probable each place is, and why.
+// Which places of an answer to `places` are shown, how probable each of them is, and why.
 //
 //   const chosen = judgingBy(confidence, numbers);
-//   const found = judged(answer, reference, network, chosen.judging);
+//   const found = judged(answer, chosen.judging);
 //
-// `confidence` is the JSON of a confidence file, and `numbers` those that were asked with: all tolerances, and of `places` those that were
-// given. `chosen.note` says why there are no probabilities, and is empty if there are. An answer is what `exactJson` makes of one, and a
-// reference what `readReference` gives, or null. Numbers that aren't there are null. Throws a ToolError if the map hasn't a line.
+// `confidence` is the JSON of a confidence file, and `numbers` all those that are asked with, by which it is known what is shown. `chosen.note`
+// says why there are no probabilities, and is empty if there are. An answer is what `exactJson` makes of one with the `longList` of `tables.py`:
+// in the likely order, and in detail. Numbers that aren't there are null.
 
 // The names of the numbers that a confidence is for, as sentences have them.
 const NUMBERS_OF_CONFIDENCE = ["radius", "bearing", "class", "lowest", "percent", "slack", "apart"];
-const APART_BY_DEFAULT = 750;
 const REMEDY_OF_OTHERS = "make a file with your options by olr-tools calibrate";
+// Likely costs are in parts of a penalty point, so many of one.
+const PARTS_OF_POINT = 30;
 
 // By what answers are judged: if the confidence is for other numbers there are no probabilities.
 function judgingBy(confidence, numbers) {
   const others = otherNumbers(confidence, numbers);
-  const judging = { confidence: others ? null : confidence, shown: shownBy(numbers) };
+  const judging = { confidence: others ? null : confidence, shown: { within: numbers.within, most: numbers.most } };
   return { judging, others, note: others ? `no probabilities: ${others}: ${REMEDY_OF_OTHERS}` : "" };
 }
 
 function otherNumbers(confidence, numbers) {
   const made = { ...confidence.tolerances, apart: confidence.apart };
-  const asked = { apart: APART_BY_DEFAULT, ...numbers };
-  const others = NUMBERS_OF_CONFIDENCE.filter((name) => asked[name] !== made[name]);
-  return others.map((name) => `${name} is ${asked[name]}, not ${made[name]}`).join("; ");
+  const others = NUMBERS_OF_CONFIDENCE.filter((name) => numbers[name] !== made[name]);
+  return others.map((name) => `${name} is ${numbers[name]}, not ${made[name]}`).join("; ");
 }
 
-// An answer whose places are in the likely order: { places, verdict, margin, noneOfThese, mapDiffers, isCutOff }, each place with { place,
-// rank, likely, ends, turnsBack, probability, reasons }. `shown` says which places are shown: all of them for null.
-function judged(answer, reference, network, { confidence = null, shown = null } = {}) {
-  const fits = answer.places.map(({ matching }) => fitOf(matching, network));
-  const costs = likelyCosts(fits);
-  const said = probabilitiesOf(answer, fits, costs, reference, network, confidence);
-  const order = shown === null ? likelyOrder(costs) : areShown(answer, costs, shown);
+// An answer by its places that are shown: { places, verdict, margin, noneOfThese, mapDiffers, isCutOff }, each place with { place, rank,
+// likely, ends, turnsBack, probability, reasons }.
+function judged(answer, { confidence, shown }) {
+  const said = probabilitiesOf(answer, confidence);
   return {
-    places: order.map((at, place) => ({
-      place: answer.places[at],
-      rank: at + 1,
-      likely: place + 1,
-      ends: fits[at].ends,
-      turnsBack: fits[at].turnsBack,
-      probability: said === null ? null : said.ofPlace[at],
-      reasons: said === null ? "" : reasonsOf(fits[at], said.evidence[at]),
-    })),
-    verdict: shown === null ? answer.verdict : verdictWithin(answer, shown.within),
+    places: areShown(answer, shown).map((at, index) => {
+      const place = answer.places[at];
+      return {
+        place,
+        rank: place.rank,
+        likely: index + 1,
+        ends: endsOf(place.matching),
+        turnsBack: place.matching.turns_back,
+        probability: said && said.ofPlace[at],
+        reasons: said ? reasonsOf(place.matching) : "",
+      };
+    }),
+    verdict: verdictWithin(answer, shown),
     margin: answer.margin,
-    noneOfThese: said === null ? null : said.ofNone,
-    mapDiffers: said === null ? null : confidence.map_differs,
-    isCutOff: shown !== null && isCutOff(answer, costs, shown),
+    noneOfThese: said && said.ofNone,
+    mapDiffers: said && confidence.map_differs,
+    isCutOff: isCutOff(answer, shown),
   };
 }
 
-// How probable it is that each place is the right one, and that none is, with what speaks for and against each; null where nothing is said,
-// as of points along a line: no trial is of one.
-function probabilitiesOf(answer, fits, costs, reference, network, confidence) {
-  const isSaid = confidence !== null && reference !== null && reference.kind === "line" && fits.length > 0;
-  if (!isSaid) return null;
-  const { radius } = confidence.tolerances;
-  const evidence = answer.places.map(({ matching }) => evidenceOf(matching, reference, network, radius));
-  return { ...probabilities(weightsOf(confidence), fits, costs, evidence), evidence };
+// ---- what the program says of shorter lists
+
+// The indices of the places that are shown: those that it would list with this `within`, and those that are as likely.
+function areShown({ places }, { within, most }) {
+  const isShown = ({ gap, cost }) => gap <= within || cost <= places[0].cost + PARTS_OF_POINT * within;
+  return places.flatMap((place, at) => (isShown(place) ? [at] : [])).slice(0, most);
 }
 
-function weightsOf(confidence) {
-  return Object.fromEntries(Object.entries(confidence.weights).map(([name, { value }]) => [name, value]));
+// Its verdict with this `within`.
+function verdictWithin({ places, verdict, next }, { within }) {
+  if (!places.length) return verdict;
+  const listed = places.filter(({ gap }) => gap <= within).length;
+  if (listed > 1) return "ambiguous";
+  return listed < places.length || next === null ? "unique" : "open";
 }
 
-// A conditional logit: each place has a worth, which its differences lower, none of these has one too, and a probability is the share of the
-// exponential of a worth in all of them.
-function probabilities(weights, fits, costs, evidence) {
-  const first = likelyOrder(costs)[0];
-  const ofPlace = evidence.map((one, place) => -worthLost(weights, fits[place], one, costs[place] - costs[first]));
-  const { count, lines } = fits[first];
-  const ofNone = weights.none + (count - 2) * weights.none_points + Math.log(Math.max(lines, 1)) * weights.none_lines;
-  const greatest = Math.max(-leastOf(ofPlace.map((worth) => -worth)), ofNone);
-  const place = ofPlace.map((worth) => Math.exp(worth - greatest));
+// Whether looking ended before a place that might be shown: behind the last matching that was looked at there may be others, whose totals
+// aren't less than its own, and whose likely costs aren't less than a fifth of that. A cursor begins with the total.
+function isCutOff({ places, next }, { within }) {
+  if (next === null || !places.length) return false;
+  return (PARTS_OF_POINT / 5) * Number(next.split(":")[0]) <= places[0].cost + PARTS_OF_POINT * within;
+}
+
+// ---- how probable places are
+
+// How probable it is that each place is the right one, and that none is; null where nothing is said, as of points along a line: no trial is of
+// one. A conditional logit: each place has a worth, which its differences lower, none of these has one too, and a probability is the share of
+// the exponential of a worth in all of them.
+function probabilitiesOf({ places }, confidence) {
+  if (confidence === null || !places.length || (places[0].matching.earliest ?? null) !== null) return null;
+  const weights = Object.fromEntries(Object.entries(confidence.weights).map(([name, { value }]) => [name, value]));
+  const [{ cost: least, matching: first }] = places;
+  const ofPlace = places.map(({ cost, matching }) => -worthLost(weights, matching, (cost - least) / PARTS_OF_POINT));
+  const ofNone = weights.none + (first.points.length - 2) * weights.none_points + Math.log(Math.max(first.route.length, 1)) * weights.none_lines;
+  const greatest = Math.max(...ofPlace, ofNone);
+  const shares = ofPlace.map((worth) => Math.exp(worth - greatest));
   const none = Math.exp(ofNone - greatest);
-  const whole = sumOf(place) + none;
-  return { ofPlace: place.map((share) => share / whole), ofNone: none / whole };
+  const whole = sumOf(shares) + none;
+  return { ofPlace: shares.map((share) => share / whole), ofNone: none / whole };
 }
 
-// `behind` is by how much the place costs more than the likeliest one.
-function worthLost(weights, fit, { distance, sectors, longer }, behind) {
-  const ofPoints = sumOf(distance) * weights.distance + sumOf(sectors) * weights.direction;
-  const ofLegs = sumOf(longer.map((share) => Math.abs(share * 100))) * weights.length;
-  return ofPoints + ofLegs + behind * weights.behind + Number(fit.turnsBack) * weights.turning_back;
+// `behind` is by how many penalty points the matching costs more than the likeliest one.
+function worthLost(weights, { points, legs, turns_back: isBack }, behind) {
+  const distance = sumOf(points.map((point) => point.distance)) / 100;
+  const sectors = sumOf(points.map((point) => point.sectors));
+  const percent = sumOf(legs.map((leg) => Math.abs(100 * longerThanTold(leg))));
+  const ofPoints = distance * weights.distance + sectors * weights.direction;
+  return ofPoints + percent * weights.length + behind * weights.behind + Number(isBack) * weights.turning_back;
 }
 
-// ---- why a place is as probable as it is
+// By what share a leg is longer than the greatest length that its reference tells, or shorter than the least one, below 0: in metres, and so
+// rounded as in Python.
+function longerThanTold({ length, greatest }) {
+  const [metres, told] = [length / 10, (greatest + 1) / 10];
+  return (Math.max(metres - told, 0) - Math.max(told - INTERVAL_METRES - metres, 0)) / told;
+}
 
+// ---- what is said of a place
+
+// Decimetres that a point lies from the proper end of its line at most, as it is counted: farther away is no worse.
+const MOST_END = 500;
 const MOST_REASONS = 4;
 // The share by which a leg misses what the reference says, from which on it is said.
 const OFF = 0.02;
@@ -96,26 +120,32 @@ const OFF = 0.02;
 const [FAR, FAR_END, OTHER_DIRECTION, MANY_LINES] = [20, 20, 2, 15];
 const ALL_FITS = "points, directions and lengths are as the reference says";
 
-// Those that weigh most first, as a sentence.
-function reasonsOf(fit, evidence) {
+// How far its points lie from the proper ends of their lines together, in metres.
+function endsOf({ points }) {
+  return sumOf(points.map(({ end }) => Math.min(end, MOST_END))) / 10;
+}
+
+// Why it is as probable: the reasons that weigh most first, as a sentence.
+function reasonsOf({ points, legs, route, turns_back: isBack }) {
   const reasons = [
-    ...reasonsOfRoute(fit),
-    ...evidence.longer.flatMap(reasonsOfLeg),
-    ...fit.fromEnd.flatMap((metres, place) => reasonsOfEnd(metres, place + 1, place === fit.fromEnd.length - 1)),
-    ...evidence.distance.flatMap(reasonsOfDistance),
-    ...evidence.sectors.flatMap(reasonsOfDirection),
+    ...reasonsOfRoute(isBack, route.length),
+    ...legs.flatMap(reasonsOfLeg),
+    ...points.flatMap(({ end }, place) => reasonsOfEnd(end / 10, place + 1, place === points.length - 1)),
+    ...points.flatMap(reasonsOfDistance),
+    ...points.flatMap(reasonsOfDirection),
   ];
   reasons.sort((one, other) => other.weight - one.weight);
   const texts = reasons.slice(0, MOST_REASONS).map(({ text }) => text);
   return texts.join("; ") || ALL_FITS;
 }
 
-function reasonsOfRoute({ turnsBack: isBack, lines }) {
+function reasonsOfRoute(isBack, lines) {
   const back = isBack ? [{ weight: 100, text: "it turns back" }] : [];
   return lines >= MANY_LINES ? [...back, { weight: 0, text: `${lines} lines, any of which may be missing` }] : back;
 }
 
-function reasonsOfLeg(share, place) {
+function reasonsOfLeg(leg, place) {
+  const share = longerThanTold(leg);
   if (Math.abs(share) < OFF) return [];
   const percent = 100 * Math.abs(share);
   return [{ weight: 2 * percent, text: `leg ${place + 1} is ${fixed(percent, 0)} percent ${share > 0 ? "longer" : "shorter"} than the reference says` }];
@@ -127,11 +157,12 @@ function reasonsOfEnd(metres, number, isLast) {
   return [{ weight: Math.min(metres, 50) / 3, text: `point ${number} lies ${fixed(metres, 0)} m ${where} of its line` }];
 }
 
-function reasonsOfDistance(metres, place) {
+function reasonsOfDistance({ distance }, place) {
+  const metres = distance / 100;
   return metres >= FAR ? [{ weight: metres, text: `point ${place + 1} lies ${fixed(metres, 0)} m beside its line` }] : [];
 }
 
-function reasonsOfDirection(off, place) {
-  if (off < OTHER_DIRECTION) return [];
-  return [{ weight: 10 * off, text: `the direction at point ${place + 1} differs by about ${fixed(off * 11.25, 0)} degrees` }];
+function reasonsOfDirection({ sectors }, place) {
+  if (sectors < OTHER_DIRECTION) return [];
+  return [{ weight: 10 * sectors, text: `the direction at point ${place + 1} differs by about ${fixed(sectors * 11.25, 0)} degrees` }];
 }

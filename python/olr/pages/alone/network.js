@@ -126,19 +126,6 @@ class Network {
     return this._banned.has(first * this.count + second);
   }
 
-  // Whether lines leave a common node within 45 degrees of where they came from, by their indices: `second` starts where `first` ends.
-  turnsSharply(first, second) {
-    const node = this._first[second];
-    const last = this._first[first + 1] - 1;
-    const [lat, lon] = this._point(node);
-    const shrink = Math.cos(lat * RADIANS);
-    const vector = (at) => [(this._lon[at] / 1e6 - lon) * shrink, this._lat[at] / 1e6 - lat];
-    const [before, behind] = [vector(last - 1), vector(node + 1)];
-    const along = before[0] * behind[0] + before[1] * behind[1];
-    const across = before[0] * behind[1] - before[1] * behind[0];
-    return Math.abs(across) < along * Math.tan(45 * RADIANS);
-  }
-
   // ---- what is made once
 
   _putNodes([ids], from, to) {

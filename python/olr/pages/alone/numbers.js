@@ -1,11 +1,10 @@
 "use strict";
-// Numbers as Python and numpy round and add them, to the last bit.
+// Numbers as Python and numpy round them, to the last bit, and sums.
 //
 //   roundHalfEven(2.5)      2        np.round(2.5)
 //   rounded(0.0625, 3)      0.062    round(0.0625, 3)
-//   sumOf(values)                    np.add.reduceat
 //   hypotenuse(x, y)                 np.hypot
-//   leastOf(values)                  min(values)
+//   sumOf(values)           sum(values)
 
 // The nearest whole number, of two that are as near the even one: `np.round`.
 function roundHalfEven(value) {
@@ -38,30 +37,7 @@ function hypotenuse(x, y) {
   return length - (one + other) / (2 * length);
 }
 
-// The sum of values, of which there is one at least: `np.add.reduceat` adds those behind the first one in pairs of eight.
+// The sum of values.
 function sumOf(values) {
-  return values.length === 1 ? values[0] : values[0] + pairwise(values, 1, values.length);
-}
-
-function pairwise(values, first, behind) {
-  const count = behind - first;
-  if (count > 128) {
-    const half = count >> 1;
-    const middle = first + half - (half % 8);
-    return pairwise(values, first, middle) + pairwise(values, middle, behind);
-  }
-  let at = first;
-  let sum = 0;
-  if (count >= 8) {
-    const sums = values.slice(first, first + 8);
-    for (at = first + 8; at < behind - (count % 8); at += 8) for (let place = 0; place < 8; place += 1) sums[place] += values[at + place];
-    sum = sums[0] + sums[1] + (sums[2] + sums[3]) + (sums[4] + sums[5] + (sums[6] + sums[7]));
-  }
-  for (; at < behind; at += 1) sum += values[at];
-  return sum;
-}
-
-// The least one of values; infinity for none.
-function leastOf(values) {
-  return values.reduce((least, value) => Math.min(least, value), Infinity);
+  return values.reduce((sum, value) => sum + value, 0);
 }

@@ -12,7 +12,7 @@ from typing import Any, NamedTuple
 
 from olr.model.box import Box
 from olr.model.profiles import DEFAULT_PROFILE, PROFILES, tolerances_of
-from olr.model.questions import NUMBERS, TOLERANCES, Number
+from olr.model.questions import NUMBERS, TOLERANCES, Number, options_for
 from olr.pages.alone.module import MODULE
 from olr.pages.alone.tables import tables
 from olr.pages.html import data_text, filled, leaflet, licences, origin_of
@@ -30,11 +30,8 @@ SHARED = (
     "network.js",
     "pieces.js",
     "sources.js",
-    "turning_back.js",
-    "reference.js",
     "faults.js",
     "asked_with.js",
-    "likely.js",
     "judging.js",
     "rows.js",
     "sentences.js",
@@ -206,10 +203,14 @@ def _about(carried: Carried) -> str:
 
 
 def _questions() -> dict[str, Any]:
-    """The numbers of questions, the tolerances of profiles, and the profile where none is named."""
+    """The numbers of questions, the words of their other options, the tolerances of profiles, and the profile where none is named."""
     return {
         "tolerances": _rows(TOLERANCES),
         "numbers": {what: _rows(numbers) for what, numbers in NUMBERS.items()},
+        "options": {
+            what: {name: option.words for name, option in options_for(what).items()}
+            for what in NUMBERS
+        },
         "profiles": {name: tolerances_of(name) for name in PROFILES},
         "profile": DEFAULT_PROFILE,
     }

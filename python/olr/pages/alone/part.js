@@ -23,18 +23,20 @@ class ProgramOnPart {
   }
 
   answer(what, numbers, reference, after = undefined) {
-    return this.has(reference) ? this.program.answer(what, numbers, reference, after) : { text: null, fault: NOT_ON_PAGE };
+    const [isThere] = this.areThere([["", reference]]);
+    return isThere ? this.program.answer(what, numbers, reference, after) : { text: null, fault: NOT_ON_PAGE };
   }
 
   lines(what, numbers, records) {
-    const areThere = records.map(([, reference]) => this.has(reference));
+    const areThere = this.areThere(records);
     const asked = records.map(([key, reference], at) => [key, areThere[at] ? reference : ""]);
     const line = (at) => JSON.stringify({ answer: null, fault: NOT_ON_PAGE, key: records[at][0], record: at + 1 });
     return this.program.lines(what, numbers, asked).map((found, at) => (areThere[at] ? found : line(at)));
   }
 
-  has(reference) {
-    const read = readReference(reference);
-    return read === null || this.points.has(read.points.flatMap(({ lon, lat, interval }) => [lon, lat, interval ?? -1]).join());
+  // Of records whether each has one of these references, or a text that the program refuses.
+  areThere(records) {
+    const said = this.program.lines("show", {}, records).map((line) => JSON.parse(line).answer);
+    return said.map((read) => read === null || this.points.has(read.points.flatMap(({ lon, lat, interval }) => [lon, lat, interval ?? -1]).join()));
   }
 }

@@ -1,16 +1,16 @@
 "use strict";
 // The rows of the page's list: of each record its likeliest place, and how probable that is.
 //
-//   rowOf(line, text, network, judgingBy(confidence, numbers))
+//   rowOf(line, judgingBy(confidence, numbers))
 //
-// `line` is that of `olr batch places` about a record, asked with the long list of `listing(numbers)`, and `text` the reference of the record.
-// `rowText(row)` is the line of JSON, without its end, that the server gives. Throws a ToolError if the map hasn't a line of the answer.
+// `line` is that of `olr batch places` about a record, asked with the `longList` of `tables.py`. `rowText(row)` is the line of JSON, without its
+// end, that the server gives.
 
 const DIGITS_OF_PROBABILITY = 3;
 
-function rowOf(line, text, network, { judging, note }) {
+function rowOf(line, { judging, note }) {
   const { answer, fault, key, record } = exactJson(line);
-  const found = fault === null ? judged(answer, readReference(text), network, judging) : null;
+  const found = fault === null ? judged(answer, judging) : null;
   return { record, key, ...columnsOf(found, fault), no_probabilities: note || null };
 }
 

@@ -5,7 +5,7 @@
 //     tiles, tables });
 //
 // `reference` is its text, and `show` what it says. `candidates`, `places`, `page` (of `match`) and `why` are the program's answers, as
-// `exactJson` reads them, or else the texts of faults; `places` was asked for the long list, and `why` is null where it fits somewhere
+// `exactJson` reads them, or else the texts of faults; `places` was asked with the `longList` of `tables`, and `why` is null where it fits somewhere
 // (`fitsSomewhere`). `streets` are those of `Streets.of(network)`, which are made once. `judgement` is that of the places,
 // as `judging.js` has it, or null if `places` is a fault; by `confidence`, which is null where there are no probabilities: then `note` says
 // why, or is an empty text. `numbers` are all tolerances and the numbers of `places`, by the names of options: what was asked for, not the

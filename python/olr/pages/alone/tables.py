@@ -2,20 +2,16 @@
 
 from typing import Any
 
-from olr.likely.long_list import LIST
 from olr.model.fault_table import ROWS
-from olr.model.questions import NUMBERS, TOLERANCES
+from olr.model.questions import LIST, NUMBERS, TOLERANCES, defaults_of
 
 
 def tables() -> dict[str, Any]:
     """`faults` by the lines of docs/FAULTS.md, each its meaning and what to do; the program's defaults of all `tolerances`, and of the other
-    `numbers` of each question; and `longList`, the numbers with which all places are asked for."""
+    `numbers` and options of each question; and `longList`, with which all places are asked for."""
     return {
         "faults": ROWS,
         "tolerances": {name: number.default for name, number in TOLERANCES.items()},
-        "numbers": {
-            what: {name: number.default for name, number in numbers.items()}
-            for what, numbers in NUMBERS.items()
-        },
+        "numbers": {what: defaults_of(what) for what in NUMBERS},
         "longList": LIST,
     }

@@ -43,7 +43,7 @@ function answerOf({ address, body, accept, from }) {
   if (path === "health") return said({ map: known.map.shown, digest: known.map.digest });
   if (path === "messages") return lined(LINES_TYPE, messagesOf(body, options));
   if (path === "scene") return said(sceneAt(options));
-  if (path === "rows") return lined(LINES_TYPE, rowsOf(body, numbersOf("places", options, known.questions), from));
+  if (path === "rows") return lined(LINES_TYPE, rowsOf(body, numbersOf("places", options, known.questions, {}), from));
   if (path === "batch/places" && accept.includes(FEATURES_TYPE)) {
     return lined(FEATURES_TYPE, featuresOf(body, numbersOf("places", options, known.questions), from));
   }
@@ -77,7 +77,7 @@ function throwing({ text, fault }) {
 
 // ---- one reference
 function sceneAt(options) {
-  const { ref, numbers } = questionOf("places", options, known.questions);
+  const { ref, numbers } = questionOf("places", options, known.questions, {});
   const { program, network, streets, confidence, questions, tables, map, tiles } = known;
   const tolerances = Object.fromEntries(Object.keys(questions.tolerances).map((name) => [name, numbers[name]]));
   const text = recordText(ref);
@@ -90,13 +90,15 @@ function sceneAt(options) {
   const ofPlaces = Object.fromEntries(Object.keys(questions.numbers.places).map((name) => [name, numbers[name]]));
   const [candidates, places, page] = [ask("candidates"), ask("places", listing(ofPlaces)), ask("match", defaultsOf("match"))];
   const why = fitsSomewhere(places, page) ? null : ask("why", defaultsOf("why"));
-  const judgement = typeof places === "string" ? null : judged(places, readReference(text), network, judging);
+  const judgement = typeof places === "string" ? null : judged(places, judging);
   return sceneOf({
     reference: ref, show, candidates, places, page, why, network, streets, judgement, confidence: judging.confidence, note, numbers,
     mapName: map.folder, tiles, tables,
   });
 }
 
+// As `places` are asked for whose answers are judged.
+const listing = (numbers) => ({ ...numbers, ...known.tables.longList });
 const defaultsOf = (what) => Object.fromEntries(Object.entries(known.questions.numbers[what]).map(([name, number]) => [name, number.default]));
 
 // ---- many
@@ -106,25 +108,23 @@ async function recordsOf(body) {
   return lines.map((line) => line.split(/\t(.*)/s).slice(0, 2));
 }
 
-// The lines of the program about records, a piece at a time, and the reference of each.
+// The lines of the program about records, a piece at a time.
 async function* answered(body, numbers, from) {
   const records = await recordsOf(body);
   for (let begin = from * RECORDS_OF_PIECE; begin < records.length; begin += RECORDS_OF_PIECE) {
-    const lot = records.slice(begin, begin + RECORDS_OF_PIECE);
-    const lines = known.program.lines("places", listing(numbers), lot);
-    yield lines.map((line, at) => [line, lot[at][1]]);
+    yield known.program.lines("places", listing(numbers), records.slice(begin, begin + RECORDS_OF_PIECE));
   }
 }
 
 async function* rowsOf(body, numbers, from) {
   const chosen = judgingBy(known.confidence, numbers);
-  for await (const lot of answered(body, numbers, from)) yield lot.map(([line, ref]) => `${rowText(rowOf(line, ref, known.network, chosen))}\n`).join("");
+  for await (const lines of answered(body, numbers, from)) yield lines.map((line) => `${rowText(rowOf(line, chosen))}\n`).join("");
 }
 
 async function* featuresOf(body, numbers, from) {
   const { judging } = judgingBy(known.confidence, numbers);
-  for await (const lot of answered(body, numbers, from)) {
-    yield lot.map(([line, ref]) => featureLine(line, ref, known.network, judging, known.sources)).join("");
+  for await (const lines of answered(body, numbers, from)) {
+    yield lines.map((line) => featureLine(line, known.network, judging, known.sources)).join("");
   }
 }
 

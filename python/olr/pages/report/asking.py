@@ -5,12 +5,12 @@ from typing import NamedTuple
 
 from olr.client.map_client import Map
 from olr.confidence.judged import Judging
-from olr.likely.long_list import listing
 from olr.matching.asking import Asked
 from olr.matching.chunks import Answered, chunks_of
 from olr.matching.lacking import Lacking, is_without_place
 from olr.model.answers import Places
 from olr.model.fault import Fault
+from olr.model.questions import listing
 from olr.pages.report.counting import PlaceCounts
 from olr.pages.report.reasons import ReasonCounts
 from olr.pages.report.sample import Drawn, Sample
@@ -43,7 +43,7 @@ def count(
     network = asked.network()
     kept: list[_Kept] = []
     answered = (
-        Answered(message, message.reference, answer)
+        Answered(message, answer)
         for message, answer in messages.answered("places", listing(numbers))
     )
     for chunk in chunks_of(answered, network, judging):

@@ -109,7 +109,7 @@ class PlaceCounts:
             return
         likeliest = judgement.places[0]
         self.totals.add(likeliest.place.matching.total)
-        self.turning_back += likeliest.turns_back
+        self.turning_back += bool(likeliest.turns_back)
         self.probabilities.add(likeliest.probability)
         for one in judgement.places:
             if one.rank > 1:

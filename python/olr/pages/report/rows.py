@@ -6,14 +6,14 @@ from itertools import islice
 from typing import Any, NamedTuple
 
 from olr.client.map_client import Map
-from olr.confidence.judged import Judged, Judging
+from olr.confidence.judged import Judged, Judging, judged
 from olr.geometry.network import Network
 from olr.matching.columns import rounded
 from olr.model.answers import Candidates, Page, Places, Why
 from olr.model.fault import Fault
 from olr.model.reference import read_reference
 from olr.pages.report.sample import Drawn
-from olr.pages.view.scene import Answered, answers_about, judgements_of, scene_of_answers
+from olr.pages.view.scene import Answered, answers_about, scene_of_answers
 from olr.pages.view.sentences import why_texts
 from olr.pages.view.surroundings import DIGITS, Scene, Surroundings, box_of, network_around
 from olr.progress import watched
@@ -77,7 +77,7 @@ def _scenes(
     known = [one for one in answers if one is not None]
     # The lines of a store are read at once.
     part = network.having(line for one in known for line in _lines_of(one))
-    judgements = judgements_of(known, part, judging)
+    judgements = judged([one.places for one in known], judging)
     found = (
         (scene_of_answers(one, part, judgement, judging.confidence), judgement)
         for one, judgement in zip(known, judgements)

@@ -9,14 +9,13 @@ from olr.asking.once import decode
 from olr.client.map_client import Map
 from olr.confidence.confidence import Confidence
 from olr.confidence.judged import Judged, JudgedPlace, Judging, judged
+from olr.confidence.shown import Shown
 from olr.geometry.network import Network, OnLine, middle
-from olr.likely.long_list import LIST
-from olr.likely.order import Shown
 from olr.model.answers import Candidate, Candidates, Matching, Page, Places, Reference, Why
 from olr.model.asked_with import command_text
 from olr.model.fault import Fault
 from olr.model.pieces import Pieces
-from olr.model.questions import What
+from olr.model.questions import What, listing
 from olr.near_paths.notes import streets_of
 from olr.pages.view import sentences
 from olr.pages.view.notes import notes_of
@@ -47,7 +46,7 @@ def scene_of(text: str, asked: Map, confidence: Confidence | None = None, **numb
     (answered,) = answers_about([(text, reference)], asked, **numbers)
     if isinstance(answered.why, Fault):
         raise answered.why
-    (judgement,) = judgements_of([answered], network, judging)
+    (judgement,) = judged([answered.places], judging)
     scene = scene_of_answers(answered, network, judgement, confidence)
     lowest = asked.tolerances["lowest"]
     scene |= notes_of(scene, answered, network, lowest, partial(streets_of, asked))
@@ -64,7 +63,7 @@ def answers_about(
     meanwhile."""
     texts = [text for text, _ in references]
     candidates = asked.answers("candidates", texts)
-    places: Iterator[Any] = asked.answers("places", texts, **{**numbers, **LIST})
+    places: Iterator[Any] = asked.answers("places", texts, **listing(numbers))
     pages = asked.answers("match", texts)
     answers = zip(references, candidates, places, pages, strict=True)
     found = [Answered(*about, one, two, three) for about, one, two, three in answers]
@@ -78,15 +77,6 @@ def fits(answered: Answered) -> bool:
     if isinstance(places, Fault) or isinstance(page, Fault):
         return False
     return bool(places.places or page.matchings)
-
-
-def judgements_of(
-    answers: Sequence[Answered], network: Network, judging: Judging
-) -> list[Judged | None]:
-    """Which places of answers are shown, and how probable they are; None where there is no answer. Raises as `scene_of_answers`."""
-    return judged(
-        [one.places for one in answers], [one.reference for one in answers], network, judging
-    )
 
 
 def scene_of_answers(
@@ -138,7 +128,7 @@ def add_command(scene: Scene, map_name: str | None, numbers: Mapping[str, int]) 
     program doesn't read the map. The numbers are all tolerances and the numbers of `places`, by the names of the program's options.
     """
     question: What = "places" if scene["why"] is None else "why"
-    scene["command"] = command_text(question, scene["reference"], map_name, {**numbers, **LIST})
+    scene["command"] = command_text(question, scene["reference"], map_name, listing(numbers))
 
 
 def _points(reference: Reference) -> list[Scene]:

@@ -5,7 +5,7 @@ from collections.abc import Sequence
 from olr.confidence.confidence import Confidence
 from olr.confidence.judged import Judged, JudgedPlace
 from olr.confidence.sentences import differs_text, probability_text
-from olr.likely.order import Verdict
+from olr.confidence.shown import Verdict
 from olr.model.answers import Leg, NearLine, Pair, Reference, ReferencePoint, Remedy, Why, WhyLeg
 
 INTERVAL = 58.6

@@ -1,0 +1,122 @@
+"""What the program says for and against the places of many answers, as arrays: the terms of probabilities and reasons."""
+
+import numpy as np
+from collections.abc import Sequence
+from typing import NamedTuple
+
+from olr.arrays import Booleans, Floats, Integers
+from olr.geometry.parts import parts_of
+from olr.model.answers import Candidate, Leg, Matching, Places
+
+MOST_END = 500
+"""Decimetres that a point lies from the proper end of its line at most, as it is counted: farther away is no worse."""
+INTERVAL = 58.6
+"""Metres in an interval of a reference."""
+
+
+class Terms(NamedTuple):
+    """The places of answers in the likely order, one answer behind the other. Not every answer has one."""
+
+    sizes: Integers
+    """How many places each answer has."""
+    costs: Integers
+    """The likely cost of each place, in thirtieths of a penalty point."""
+    turns_back: Booleans
+    """Of each place: whether its route goes from a line to one that leads back along it."""
+    lines: Integers
+    """Of each place: how many lines its route has."""
+    counts: Integers
+    """Of each place: how many points it has. Those of all places stand one behind the other, and so do their legs."""
+    from_end: Floats
+    """Of each point: how far it lies from the proper end of its line, in metres."""
+    distance: Floats
+    """Of each point: how far it lies from its line, in metres."""
+    sectors: Integers
+    """Of each point: by how many sectors of 11.25 degrees its direction and that of its line differ."""
+    classes: Integers
+    """Of each point: by how many classes it differs from its line."""
+    other_form: Booleans
+    """Of each point: whether its line has another form."""
+    told: Floats
+    """Of each leg: the greatest length that the reference tells, in metres."""
+    length: Floats
+    """Of each leg: the length of its path, in metres."""
+
+    def first(self) -> Integers:
+        """The number of the likeliest place of each answer that has one."""
+        sizes = self.sizes[self.sizes > 0]
+        result: Integers = np.cumsum(sizes) - sizes
+        return result
+
+    def owners(self) -> Integers:
+        """The number of the answer of each place."""
+        return np.repeat(np.arange(len(self.sizes)), self.sizes)
+
+    def longer(self) -> Floats:
+        """Of each leg: by what share it is longer than the greatest length that the reference tells, or, below 0, shorter than the least
+        one, which is an interval less; 0 between them."""
+        above = np.maximum(self.length - self.told, 0)
+        below = np.maximum(self.told - INTERVAL - self.length, 0)
+        result: Floats = (above - below) / self.told
+        return result
+
+    def sums(self) -> Floats:
+        """Of each place: distances in metres, sectors, and how far legs miss what the reference tells in percent, each added up."""
+        counts = self.counts
+        columns = (
+            _sums_of(self.distance, counts),
+            _sums_of(self.sectors, counts),
+            _sums_of(np.abs(self.longer()) * 100, counts - 1),
+        )
+        return np.stack(columns, axis=1)
+
+
+def terms_of(answers: Sequence[Places | None]) -> Terms:
+    """Those of answers in the likely order and in detail; None has no places."""
+    found = [one.matching for answer in answers if answer for one in answer.places]
+    points = _columns([_of_point(it) for one in found for it in one.points], 5)
+    legs = _columns([_of_leg(it) for one in found for it in one.legs], 2)
+    return Terms(
+        sizes=np.array([len(one.places) if one else 0 for one in answers], dtype=np.int64),
+        costs=np.array([one.cost for one in found], dtype=np.int64),
+        turns_back=np.array([one.turns_back for one in found], dtype=np.bool_),
+        lines=parts_of([one.route for one in found]).counts,
+        counts=np.array([len(one.points) for one in found], dtype=np.int64),
+        from_end=points[0] / 10,
+        distance=points[1] / 100,
+        sectors=points[2],
+        classes=points[3],
+        other_form=points[4] > 0,
+        told=(legs[0] + 1) / 10,
+        length=legs[1] / 10,
+    )
+
+
+def ends_of(matching: Matching) -> float | None:
+    """How far its points lie from the proper ends of their lines together, in metres, `MOST_END` at most of each. None without detail."""
+    ends = [min(one.end, MOST_END) for one in matching.points if one.end is not None]
+    return sum(ends) / 10 if len(ends) == len(matching.points) else None
+
+
+def _of_point(one: Candidate) -> tuple[int | None, ...]:
+    """What each point has. One costs something for its form exactly where its line has another one."""
+    form = None if one.parts is None else one.parts.form
+    return one.end, one.distance, one.sectors, one.classes, form
+
+
+def _of_leg(one: Leg) -> tuple[int | None, ...]:
+    return one.greatest, one.length
+
+
+def _columns(rows: Sequence[Sequence[int | None]], width: int) -> Integers:
+    """Rows as columns."""
+    result: Integers = np.array(rows, dtype=np.int64).reshape(-1, width).T
+    return result
+
+
+def _sums_of(values: Floats | Integers, counts: Integers) -> Floats:
+    """The sums of values, in rows of which each has so many of them: at least one."""
+    if not len(counts):
+        return np.zeros(0)
+    result: Floats = np.add.reduceat(values, np.cumsum(counts) - counts, dtype=np.float64)
+    return result

@@ -1,0 +1,175 @@
+"""What speaks for and against places, by hand: what answers say of it, why places are as probable, and what a feed shows."""
+
+import json
+import numpy as np
+import pytest
+from typing import Any
+
+import olr
+from confidences import made_terms
+from conftest import Program
+from drawing import Drawing
+from olr.confidence.choosing import judging_for
+from olr.confidence.feed import statistics_of
+from olr.confidence.reasons import reasons_of
+from olr.confidence.terms import INTERVAL, Terms, ends_of, terms_of
+from olr.confidence.weights import WEIGHTS
+from olr.model.answers import Places, ReferencePoint
+from olr.model.objects import read_answer
+from olr.tools import run
+from olr.trials.encoder import text_of
+from pathlib import Path
+
+NOTHING = {"bearing": 0, "class": 0, "distance": 0, "form": 0}
+
+
+def point(end: int, **others: Any) -> dict[str, Any]:
+    """A point that lies so many decimetres from the proper end of its line, as the program's JSON has it."""
+    usual = {"at": end, "line": 1, "penalty": 0, "parts": NOTHING, "distance": 0, "sectors": 0}
+    return usual | {"classes": 0, "form": 3, "end": end} | others
+
+
+def answer(points: list[Any], legs: list[tuple[int, int]], cost: int, lines: int) -> Places:
+    """An answer with one place, in detail. A leg is its length, and the number of intervals that the reference tells."""
+    matching = {
+        "cost": cost,
+        "cursor": "0:1",
+        "inner": None,
+        "legs": [
+            {"greatest": 586 * (n + 1) - 1, "least": 586 * n, "length": length, "limit": 3}
+            | {"penalty": 0}
+            for length, n in legs
+        ],
+        "outer": None,
+        "points": points,
+        "route": [[line, 0, 1000] for line in range(lines)],
+        "total": 0,
+        "turns_back": False,
+    }
+    place = {"cost": cost, "gap": 0, "matching": matching, "members": 1, "rank": 1}
+    made = {"cut": False, "looked": 1, "margin": None, "next": None, "places": [place]}
+    text = json.dumps(made | {"verdict": "unique"}, separators=(",", ":"))
+    found = read_answer("places", text.encode(), None)
+    assert isinstance(found, Places)
+    return found
+
+
+def test_terms_by_hand() -> None:
+    """A first point 20 m after the start of its line and 40 m beside it, with a direction off by two sectors; one 80 m after it, on a line of
+    another class and form; and a last one 30 m before its end. The first leg is told to be shorter than 175.8 m, and is 230 m long.
+    """
+    parts = NOTHING | {"class": 10, "form": 15}
+    points = [
+        point(200, distance=4000, sectors=2),
+        point(800, classes=1, form=2, parts=parts),
+        point(300, at=1700),
+    ]
+    one = answer(points, [(2300, 2), (3200, 5)], 4150, 3)
+    terms = terms_of([None, one, Places(0, (), "none")])
+    assert (terms.sizes.tolist(), terms.counts.tolist()) == ([0, 1, 0], [3])
+    assert (terms.first().tolist(), terms.owners().tolist()) == ([0], [1])
+    assert (terms.costs.tolist(), terms.lines.tolist()) == ([4150], [3])
+    assert terms.turns_back.tolist() == [False]
+    assert terms.from_end.tolist() == [20, 80, 30]
+    assert ends_of(one.places[0].matching) == 100
+    assert (terms.distance.tolist(), terms.sectors.tolist()) == ([40, 0, 0], [2, 0, 0])
+    assert (terms.classes.tolist(), terms.other_form.tolist()) == ([0, 1, 0], [False, True, False])
+    told = 3 * INTERVAL
+    assert terms.told.tolist() == pytest.approx([told, 6 * INTERVAL])
+    assert terms.longer().tolist() == pytest.approx([(230 - told) / told, 0])
+    assert terms.sums()[0].tolist() == pytest.approx([40, 2, 100 * (230 - told) / told])
+
+
+def test_a_leg_that_is_too_short() -> None:
+    """Told to be 293 m or longer, and 200 m long."""
+    terms = terms_of([answer([point(0), point(0)], [(2000, 5)], 0, 1)])
+    least, most = 5 * INTERVAL, 6 * INTERVAL
+    assert terms.longer().tolist() == pytest.approx([(200 - least) / most])
+
+
+def test_nothing() -> None:
+    terms = terms_of([None, Places(0, (), "none")])
+    assert (terms.sizes.tolist(), len(terms.first()), len(terms.costs)) == ([0, 0], 0, 0)
+    assert terms.sums().shape == (0, 3)
+
+
+def of_three(**others: Any) -> Terms:
+    """Those of a place of three points and two legs, of which the reference tells 450 to 508.6 m."""
+    usual = {"told": [450 + INTERVAL] * 2, "length": [500.0, 500], "lines": [3]}
+    return made_terms([1], [3], **usual | others)
+
+
+@pytest.mark.parametrize(
+    "found, reason",
+    [
+        (of_three(), ""),
+        (of_three(distance=[19.9, 0, 0], sectors=[0, 1, 0], from_end=[0, 19.9, 0]), ""),
+        (of_three(distance=[0, 20.0, 0]), "point 2 lies 20 m beside its line"),
+        (of_three(sectors=[0, 0, 2]), "the direction at point 3 differs by about 22 degrees"),
+        (of_three(from_end=[20.0, 0, 0]), "point 1 lies 20 m after the start of its line"),
+        (of_three(from_end=[0, 20.0, 0]), "point 2 lies 20 m after the start of its line"),
+        (of_three(from_end=[0, 0, 20.0]), "point 3 lies 20 m before the end of its line"),
+        (of_three(length=[500, 559.5]), "leg 2 is 10 percent longer than the reference says"),
+        (of_three(length=[399.2, 500]), "leg 1 is 10 percent shorter than the reference says"),
+        (of_three(length=[500, 518.0]), ""),
+        (of_three(lines=[15]), "15 lines, any of which may be missing"),
+        (of_three(turns_back=[True]), "it turns back"),
+    ],
+)
+def test_a_reason(found: Terms, reason: str) -> None:
+    """What is off by less isn't said."""
+    said = reason or "points, directions and lengths are as the reference says"
+    assert reasons_of(found) == [said]
+
+
+def test_the_weightiest_reasons() -> None:
+    """Four are said, those that weigh most first."""
+    found = of_three(
+        from_end=[0, 60.0, 0],
+        distance=[90.0, 0, 0],
+        sectors=[0, 3, 0],
+        length=[500, 750.0],
+        turns_back=[True],
+        lines=[20],
+    )
+    assert reasons_of(found) == [
+        "it turns back; leg 2 is 47 percent longer than the reference says; point 1 lies 90 m beside its line; "
+        "the direction at point 2 differs by about 34 degrees"
+    ]
+
+
+@pytest.mark.parametrize("length, off", [(970.7, 0.0), (1067.77, 0.1), (873.63, 0.1)])
+def test_how_far_long_legs_are_off(length: float, off: float) -> None:
+    """From the middle of the interval that the reference says, in both directions."""
+    found = of_three(length=[300, length], told=[350, 1000.0])
+    numbers = statistics_of(found, np.zeros(len(WEIGHTS)))
+    median = "median share by which long legs differ from the middle of what it says"
+    assert numbers[median] == pytest.approx(off, abs=1e-6)
+
+
+def test_other_numbers_without_a_file() -> None:
+    """Then there are no probabilities, which is no error."""
+    chosen = judging_for(None, {"radius": 50}, {})
+    assert chosen.judging.confidence is None and chosen.others.startswith("radius is 50, not 75")
+    assert chosen.note.startswith("no probabilities: radius is 50")
+    own = judging_for(None, {"radius": 75, "bearing": 6, "lowest": 4, "percent": 15}, {})
+    assert own.judging.confidence is not None and not own.note
+
+
+def test_a_route_that_turns_back(program: Program, tmp_path: Path) -> None:
+    """A reference at a stub from node 2 to node 4: its best matching runs down the stub and back."""
+    drawing = Drawing({1: (-9000, 0), 2: (0, 0), 3: (9000, 0), 4: (0, 2000)})
+    drawing.way(1, [1, 2, 3])
+    drawing.way(2, [2, 4])
+    folder = tmp_path / "map"
+    words = ["import", "osm", str(drawing.write(tmp_path / "drawn.osm")), "--out", str(folder)]
+    assert run([*words, "--dead-ends", "allow"]) == 0
+    last = ReferencePoint(6, 3, 0, 9000, 24)
+    text = text_of([ReferencePoint(6, 3, 0, 0, 4, interval=25, lowest=6), last])
+    with olr.Map(folder, program=program.path, profile="program") as town:
+        found = town.match(text, detail=True).matchings
+        likely = town.places(text, within=14_620, order="likely", detail=True)
+    assert [one.turns_back for one in found] == [True, False]
+    assert [one.rank for one in likely] == [2, 1] and [one.cost for one in likely] == [
+        one.cost for one in reversed(found)
+    ]
