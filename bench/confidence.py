@@ -15,6 +15,7 @@ import argparse
 import json
 import os
 import random
+import re
 import subprocess
 import sys
 import tempfile
@@ -130,30 +131,30 @@ def tried(case):
     def right(found):
         return [
             is_right(lengths, drawn[owner].path, matching.outer or ())
-            for owner, matching in zip(found.owners().tolist(), found.matchings)
+            for owner, matching in zip(found.terms.owners().tolist(), found.matchings)
         ]
 
     for profile in ("program", "feed"):
         asking = Asking(tolerances_of(profile))
         with asking.map_of(folder) as asked:
-            answered = answered_by(asked, texts, asking)
-        found = answered.found
+            found = answered_by(asked, texts, asking)
+        terms = found.terms
         are_right = np.array(right(found), dtype=bool)
-        starts = np.cumsum(found.sizes) - found.sizes
-        with_places = np.flatnonzero(found.sizes)
-        for row, first, likeliest in zip(with_places, starts[with_places], found.first()):
-            rows[row][f"{profile} by total"] = bool(are_right[first])
-            rows[row][f"{profile} likely"] = bool(are_right[likeliest])
-            rows[row][f"{profile} listed"] = bool(are_right[first : first + found.sizes[row]].any())
+        with_places = np.flatnonzero(terms.sizes)
+        for row, first in zip(with_places, terms.first()):
+            there = range(first, first + terms.sizes[row])
+            rows[row][f"{profile} by total"] = bool(are_right[min(there, key=lambda at: key_of(found.matchings[at]))])
+            rows[row][f"{profile} likely"] = bool(are_right[first])
+            rows[row][f"{profile} listed"] = bool(are_right[there].any())
     references = [read_reference(text) for text in texts]
     wanted = Wanted(feed=texts, messages=count)
     drawing = Drawing(trials, SEED + draw, LikeMessages(references))
     confidence = calibrated(folder, drawing, asking, wanted)
     weights = np.array([confidence.weights[name] for name in WEIGHTS])
-    differences = differences_of(found, answered.evidence)
-    first = found.first()
+    differences = differences_of(terms)
+    first = terms.first()
     told = probabilities(weights, differences)
-    is_first = np.zeros(len(found.matchings), dtype=bool)
+    is_first = np.zeros(len(terms.costs), dtype=bool)
     is_first[first] = True
     checked = random.Random(draw).sample(range(len(first)), min(CHECKED, len(first)))
     shift = shift_of(weights, only(differences, is_first, are_right[first], sorted(checked)))
@@ -164,6 +165,11 @@ def tried(case):
         rows[row]["was checked"] = number in checked
         rows[row]["differs"] = confidence.map_differs.value
     return rows
+
+
+def key_of(matching):
+    """The total of a matching and its ranks, by which the order of totals goes."""
+    return [int(number) for number in re.split("[:.]", matching.cursor)]
 
 
 def only(differences, is_first, right, numbers):
