@@ -5,6 +5,7 @@
 //! - [`tolerances`]: how far a line may differ from its point.
 //! - [`reference_on_map`]: a reference on a map, with tolerances.
 //! - [`query`]: a point of a reference, with all that decides which lines are its candidates.
+//! - [`polyline`]: the polyline of a line of the map in a plane.
 //! - [`projection`]: the projection of a point onto a line: its distance, position and bearing;
 //!   [`line_projection`]: that onto a line of the map, by its rank.
 //! - [`form`]: what a different form of way adds to the penalty.
@@ -49,6 +50,7 @@ mod nearest;
 mod point;
 mod point_laws;
 mod points;
+mod polyline;
 mod projection;
 mod query;
 mod reference_on_map;
@@ -72,6 +74,7 @@ pub use point_laws::{
     one_lists, order, places, rejected,
 };
 pub use points::candidates_of_points;
+pub use polyline::{MAX_POINTS, polyline_of_line};
 pub use reference_on_map::ReferenceOnMap;
 pub use rejection::Rejection;
 pub use surroundings::Surroundings;

@@ -1,30 +1,14 @@
 //! The projection of a point onto a line of the map.
 
-ghost use Rattle.std.specs.Prelude.{◌≡◌, ◌<◌, ◌≤◌, length, slice_get, IfSome, MatchOption, Some};
-ghost use Rattle.olr_road.specs.RoadMap.{RoadLine};
-ghost use Rattle.olr_base.specs.Coordinates.{coordinates_of};
-ghost use Rattle.olr_metric.specs.Polyline.{IsPolyline};
-ghost use Rattle.olr_candidates.specs.Projection.{polyline_of as polyline_on};
+ghost use Rattle.std.specs.Prelude.{◌<◌, ◌≤◌, length, IfSome, MatchOption};
 ghost use Rattle.olr_candidates.specs.Query.{Projects};
 ghost use Rattle.olr_candidates.specs.declared.projection.Projection.{Projection as Projected};
 
-use crate::projection::{MAX_POINTS, Projection, polyline_of, project, projection_by};
+use crate::polyline::polyline_of_line;
+use crate::projection::{Projection, project, projection_by};
 use crate::query::Query;
-use arrayvec::ArrayVec;
-use olr_metric::{Spot, nearest, one_place_a_spot, one_spot};
-use olr_road::{Map, sound};
-
-/// Where the points of the line of a rank lie in the query's plane.
-fn polyline_at(map: &Map, query: &Query, rank: u32) -> ArrayVec<Spot, MAX_POINTS>
-    requires { rank < length map.now.lines }
-    ensures spots { (line : RoadLine) → slice_get map.now.lines rank ≡ Some line
-        → result.items ≡ polyline_on (coordinates_of query.now.plane) line }
-    ensures polyline { IsPolyline result.items }
-{
-    sound(map);
-    one_place_a_spot();
-    polyline_of(&query.plane, map.points(rank))
-}
+use olr_metric::{nearest, one_spot};
+use olr_road::Map;
 
 /// The projection of the query's point onto the line of a rank.
 pub(crate) fn projection_at(map: &Map, query: &Query, rank: u32) -> Projection
@@ -33,7 +17,7 @@ pub(crate) fn projection_at(map: &Map, query: &Query, rank: u32) -> Projection
     ensures sector { IfSome result.sector (λ sector. sector < 32) }
 {
     let line = map.line(rank);
-    let polyline = polyline_at(map, query, rank);
+    let polyline = polyline_of_line(map, &query.plane, rank);
     let p = query.plane.to_plane(query.point.at);
     project(&polyline, line.length, query.is_last, p)
 }
@@ -57,7 +41,7 @@ pub(crate) fn projection_within(
 {
     one_spot();
     let line = map.line(rank);
-    let polyline = polyline_at(map, query, rank);
+    let polyline = polyline_of_line(map, &query.plane, rank);
     let p = query.plane.to_plane(query.point.at);
     let near = nearest(&polyline, p);
     if near.distance > most {

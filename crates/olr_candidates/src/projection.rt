@@ -1,21 +1,14 @@
 //! The projection of a point onto a line: its distance, its position on the line, and the bearing
 //! there.
 
-ghost use Rattle.std.specs.Prelude.{ℕ, Bool, List, ◌≡◌, ◌*◌, ◌/◌, ◌^◌, ◌<◌, ◌≤◌, length, map, All, IfSome};
-ghost use Rattle.olr_base.specs.Coordinates.{coordinates_of};
-ghost use Rattle.olr_metric.specs.Plane.{spot_of};
+ghost use Rattle.std.specs.Prelude.{ℕ, Bool, List, ◌≡◌, ◌*◌, ◌/◌, ◌^◌, ◌<◌, ◌≤◌, IfSome};
 ghost use Rattle.olr_metric.specs.Polyline.{arc, IsNearest, IsPolyline};
 ghost use Rattle.olr_metric.specs.Spot.{IsInPlane};
 ghost use Rattle.olr_metric.specs.declared.spot.Spot.{Spot};
 ghost use Rattle.olr_candidates.specs.declared.projection.Projection.{Projection};
 ghost use Rattle.olr_candidates.specs.Projection.{bearing_arc, HasBearing, IsProjection};
 
-use arrayvec::ArrayVec;
-use olr_base::Degrees;
-use olr_metric::{Near, Plane, Spot, along, arc, nearest, one_sector, one_spot, sector};
-
-/// The most points of a line.
-pub(crate) const MAX_POINTS: usize = 66;
+use olr_metric::{Near, Spot, along, arc, nearest, one_sector, one_spot, sector};
 
 /// How far from a place on a line the bearing is measured to, in centimetres.
 const BEARING: u64 = 2_000;
@@ -29,20 +22,6 @@ pub(crate) struct Projection {
     pub(crate) at: u32,
     /// The sector of the line's bearing there, where it has one.
     pub(crate) sector: Option<u8>,
-}
-
-/// Where the points of a line lie in a plane.
-pub(crate) fn polyline_of(plane: &Plane, points: &[Degrees]) -> ArrayVec<Spot, MAX_POINTS>
-    requires { length points.now ≤ 66 }
-    ensures in_plane { All IsInPlane result.items }
-    ensures spots { result.items
-        ≡ map (λ point. spot_of (coordinates_of plane.now) (coordinates_of point)) points.now }
-{
-    let mut polyline = ArrayVec::new();
-    for &point in points {
-        polyline.push(plane.to_plane(point));
-    }
-    polyline
 }
 
 /// The arc, in centimetres, of the spot that the bearing at arc `t` is measured to, on a polyline

@@ -6,7 +6,7 @@ pub returns-then-near-most-clause-projection : goal.returns-then-near-most-claus
 returns-then-near-most-clause-projection c = λ projection is.
     let origin = coordinates_of c.args.query.now.plane in
     let spots : c.deref.result.now ≡ polyline_of origin is.0 =
-    cc (c.polyline_at-polyline.ensures.spots is.0 is.1) in
+    cc (c.polyline_of_line-polyline.ensures.spots is.0 is.1) in
     let here : IsNearest (polyline_of origin is.0)
     (spot_of origin (coordinates_of c.args.query.now.point.at)) c.nearest-near.result =
     rw (← spots, ← c.to_plane-p.ensures.spot) c.nearest-near.ensures.nearest in
@@ -20,7 +20,7 @@ returns-clause-projection c =
     let at = line_at _ _ c.requires in
     let head : c.line-line.result ≡ head_of at.0 =
     head_at c.args.map.now.lines c.args.rank _ _ at.1 c.line-line.ensures.line in
-    let polyline = c.polyline_at-polyline.ensures.spots at.0 at.1 in
+    let polyline = c.polyline_of_line-polyline.ensures.spots at.0 at.1 in
     let spots : c.deref.result.now ≡ polyline_of origin at.0 = cc in
     let again : c.deref-2.result.now ≡ polyline_of origin at.0 = cc in
     let here : IsNearest (polyline_of origin at.0)

@@ -1,5 +1,5 @@
 use Rattle.olr_candidates.proofs.Common.{coordinates_of, spot_of, IsInPlane, ◌≡◌, length, map, take, All}
-use Rattle.olr_candidates.proofs.projection.polyline_of.Given as goal
+use Rattle.olr_candidates.proofs.polyline.polyline_of.Given as goal
 
 -- the spots of the points so far
 abbrev pub invariant-loop-point : goal.invariant-loop-point
