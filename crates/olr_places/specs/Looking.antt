@@ -23,14 +23,14 @@ pub record Looked : Type 0 where
   pub matchings : List Entry
   pub ending : Ending
 
--- the key after which looking would go on: the last one that was looked at, where it was cut off
-abbrev pub next_after : Ending → Option KeyValue → Option KeyValue
-next_after NoMore last = None
-next_after (Beyond gap) last = None
-next_after Cut last = last
+-- the key behind which looking would go on: the last one that was looked at, where it was cut off
+abbrev pub key_behind : Ending → Option KeyValue → Option KeyValue
+key_behind NoMore last = None
+key_behind (Beyond gap) last = None
+key_behind Cut last = last
 
 abbrev pub next_of : Looked → Option KeyValue
-next_of looked = next_after looked.ending (last_of None (keys_of looked.matchings))
+next_of looked = key_behind looked.ending (last_of None (keys_of looked.matchings))
 
 -- ---- places
 

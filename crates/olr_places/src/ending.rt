@@ -1,7 +1,10 @@
 //! Why looking at matchings ended, and what that says about the match.
 
 ghost use Rattle.std.specs.Prelude.{◌≡◌};
-ghost use Rattle.olr_places.specs.Verdict.{verdict_word};
+ghost use Rattle.olr_places.specs.Looking.{key_behind};
+ghost use Rattle.olr_places.specs.Verdict.{verdict_by, verdict_word};
+
+use olr_keys::Key;
 
 /// Why looking ended.
 #[derive(Clone, Copy, Debug, PartialEq, Eq)]
@@ -14,6 +17,36 @@ pub enum Ending {
     /// As many matchings were looked at as were asked for, or the next one would open a place too
     /// many.
     Cut,
+}
+
+impl Ending {
+    /// The key behind which looking would go on, where this is why it ended and `last` the key of
+    /// the last matching that was looked at: `last` where looking was cut off, else none.
+    pub fn key_behind(self, last: Option<Key>) -> Option<Key>
+        ensures { result ≡ key_behind self last }
+    {
+        match self {
+            Ending::NoMore | Ending::Beyond(_) => None,
+            Ending::Cut => last,
+        }
+    }
+
+    /// Whether the match is unique, where this is why looking ended: by how many matchings were
+    /// `looked` at, and how many places are `listed`.
+    pub fn verdict(self, looked: u32, listed: usize) -> Verdict
+        ensures { result ≡ verdict_by looked listed self }
+    {
+        if looked == 0 {
+            return Verdict::None;
+        }
+        if listed >= 2 {
+            return Verdict::Ambiguous;
+        }
+        match self {
+            Ending::NoMore | Ending::Beyond(_) => Verdict::Unique,
+            Ending::Cut => Verdict::Open,
+        }
+    }
 }
 
 /// Whether a match is unique.

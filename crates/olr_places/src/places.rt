@@ -32,15 +32,6 @@ impl Places {
         ensures verdict { (limits : Limits) (looked : Looked)
             → ArePlacesOf limits looked self.now → result ≡ verdict_of limits looked }
     {
-        if self.looked == 0 {
-            return Verdict::None;
-        }
-        if self.openers.len() >= 2 {
-            return Verdict::Ambiguous;
-        }
-        match self.ending {
-            Ending::NoMore | Ending::Beyond(_) => Verdict::Unique,
-            Ending::Cut => Verdict::Open,
-        }
+        self.ending.verdict(self.looked, self.openers.len())
     }
 }
