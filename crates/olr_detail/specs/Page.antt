@@ -51,3 +51,12 @@ module _ (tolerances : Tolerances) (reference : Reference) (road : RoadMap) wher
   pub record CanBeShownInDetail (matched : Matched) : Type 0 where
     pub shown : CanBeShown road reference matched
     pub detailed : CanBeDetailed tolerances reference road matched
+
+-- Two texts are the JSON of one page in detail, with a mark of its own each, or none: they have the
+-- same matchings, the same speaks for each of them, and they go on behind the same one.
+pub record IsSamePageInDetail (road : RoadMap) (mark other : Option Mark) (text again : List ℕ)
+    : Type 0 where
+  pub all : List Detailed
+  pub next : Option KeyValue
+  pub text_is : IsJsonLine (page_object road all next mark) text
+  pub again_is : IsJsonLine (page_object road all next other) again

@@ -7,7 +7,7 @@ use Rattle.olr_metric.specs.declared.spot.Spot.{Spot}
 use Rattle.olr_road.specs.RoadMap.{RoadLine}
 use Rattle.olr_route.specs.declared.piece.Piece.{Piece}
 
--- the dot product of the ways from the plane's origin to two spots
+-- the dot product of the directions from the plane's origin to two spots
 abbrev pub dot_of : Spot → Spot → ℤ
 dot_of a b = a.x *ℤ b.x +ℤ a.y *ℤ b.y
 
@@ -15,7 +15,7 @@ dot_of a b = a.x *ℤ b.x +ℤ a.y *ℤ b.y
 abbrev pub cross_of : Spot → Spot → ℤ
 cross_of a b = a.x *ℤ b.y -ℤ a.y *ℤ b.x
 
--- the angle between the ways to two spots is less than 45 degrees
+-- the angle between the directions to two spots is less than 45 degrees
 abbrev pub IsSharp : Spot → Spot → Type 0
 IsSharp a b = pos (nat_abs (cross_of a b)) <ℤ dot_of a b
 

@@ -1,9 +1,9 @@
 //! What speaks for a candidate of a point: the parts of its penalty, and what they are made of.
 
-ghost use Rattle.std.specs.Prelude.{◌≡◌, ◌<◌, ◌≤◌, length, IfSome};
+ghost use Rattle.std.specs.Prelude.{◌≡◌, ◌<◌, length, IfSome};
 ghost use Rattle.olr_binary.specs.Reference.{points_of};
 ghost use Rattle.olr_candidates.specs.Points.{IsCandidateOf};
-ghost use Rattle.olr_detail.specs.CandidateDetail.{IsDetailOf, detail_by, end_of, parts_of, sum_of};
+ghost use Rattle.olr_detail.specs.CandidateDetail.{IsDetailOf, end_of, parts_of, sum_of};
 
 use olr_binary::Point;
 use olr_candidates::{Candidate, NearLine, ReferenceOnMap, Tolerances, near_candidates, near_line};

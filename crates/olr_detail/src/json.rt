@@ -1,9 +1,6 @@
 //! The JSON of a matching and of candidates with what speaks for them.
 
-ghost use Rattle.std.specs.Prelude.{OnOk};
-ghost use Rattle.serde_json.specs.Data.{Data};
 ghost use Rattle.olr_report.specs.Location.{located_value};
-ghost use Rattle.olr_text.specs.Sent.{Sends};
 ghost use Rattle.olr_detail.specs.Json.{candidate_object, leg_object, matching_object, parts_object};
 
 use crate::candidate_detail::{CandidateDetail, PenaltyParts};

@@ -1,11 +1,10 @@
 //! The candidates of the points of a reference, with what speaks for each of them.
 
 ghost use Rattle.std.specs.Prelude.{◌≡◌, ◌++◌, ◌<◌, codes, length, string_bytes, IfOk, OnOk};
-ghost use Rattle.serde_json.specs.Data.{Data, member, no_members, object};
+ghost use Rattle.serde_json.specs.Data.{member, no_members, object};
 ghost use Rattle.olr_binary.specs.Reference.{points_of};
 ghost use Rattle.olr_candidates.specs.Points.{AreLists, IsListOf, lists_of};
 ghost use Rattle.olr_text.specs.JsonValues.{IsJsonLine, array_of};
-ghost use Rattle.olr_text.specs.Sent.{Sends};
 ghost use Rattle.olr_detail.specs.Json.{candidate_object, listing_object};
 ghost use Rattle.olr_detail.specs.Listing.{AreDetailsAt, AreListsInDetail, details_of};
 ghost use Rattle.olr_detail.specs.Text.{candidate_row, count_row, listing_text, point_listing};

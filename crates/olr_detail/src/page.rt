@@ -1,9 +1,8 @@
 //! A page of matchings with what speaks for each of them.
 
-ghost use Rattle.std.specs.Prelude.{◌≡◌, ◌++◌, codes, length, map, option_map, string_bytes, All, IfOk, OnOk};
-ghost use Rattle.serde_json.specs.Data.{Data, member, no_members, object, string};
+ghost use Rattle.std.specs.Prelude.{◌≡◌, codes, length, map, option_map, string_bytes, All, IfOk};
+ghost use Rattle.serde_json.specs.Data.{member, no_members, object, string};
 ghost use Rattle.olr_text.specs.JsonValues.{array_of, or_null};
-ghost use Rattle.olr_text.specs.Sent.{Sends};
 ghost use Rattle.olr_text.specs.Texts.{unnumbered};
 ghost use Rattle.olr_keys.specs.Page.{page_of};
 ghost use Rattle.olr_detail.specs.Json.{detailed_object};

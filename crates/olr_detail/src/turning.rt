@@ -46,7 +46,7 @@ fn exceeds_amount(number: i128, other: i128) -> bool
     0 < number && other.unsigned_abs() < number.unsigned_abs()
 }
 
-/// The dot product of the ways from the plane's origin to two spots.
+/// The dot product of the directions from the plane's origin to two spots.
 fn dot_of(a: Spot, b: Spot) -> i128
     requires a { IsInPlane a }
     requires b { IsInPlane b }
@@ -55,7 +55,7 @@ fn dot_of(a: Spot, b: Spot) -> i128
     sum(times(a.x, b.x), times(a.y, b.y))
 }
 
-/// The cross product of the ways from the plane's origin to two spots.
+/// The cross product of the directions from the plane's origin to two spots.
 fn cross_of(a: Spot, b: Spot) -> i128
     requires a { IsInPlane a }
     requires b { IsInPlane b }
@@ -64,7 +64,8 @@ fn cross_of(a: Spot, b: Spot) -> i128
     difference(times(a.x, b.y), times(a.y, b.x))
 }
 
-/// Whether the angle between the ways from the plane's origin to two spots is less than 45 degrees.
+/// Whether the angle between the directions from the plane's origin to two spots is less than 45
+/// degrees.
 fn is_sharp(a: Spot, b: Spot) -> bool
     requires a { IsInPlane a }
     requires b { IsInPlane b }
