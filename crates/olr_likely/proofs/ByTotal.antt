@@ -2,7 +2,7 @@
 use Rattle.std.proofs.Common.{◌≡◌, List, length, refl, sym, ap, ◌∙◌}
 use Rattle.std.proofs.lemmas.List.{length-map}
 use Rattle.olr_report.specs.Entries.{Entry}
-use Rattle.olr_places.specs.Looking.{Looked, listed_of, next_after, next_of}
+use Rattle.olr_places.specs.Looking.{Looked, key_behind, listed_of, next_of}
 use Rattle.olr_places.specs.Places.{ArePlacesOf, entry_of, verdict_in}
 use Rattle.olr_places.specs.Verdict.{verdict_of}
 use Rattle.olr_places.specs.declared.limits.PlaceLimits.{PlaceLimits}
@@ -23,6 +23,6 @@ module _ {limits : PlaceLimits} {looked : Looked} {places : Places} {shown : Sho
 
   pub next_is : shown.next ≡ next_of looked
   next_is =
-      let same : next_after places.ending places.last ≡ next_of looked =
+      let same : key_behind places.ending places.last ≡ next_of looked =
       rw (are.ending, are.last) refl in
       is.next_is ∙ same

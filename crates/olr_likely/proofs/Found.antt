@@ -1,7 +1,7 @@
 -- What is answered of the places that were found by the widest limits.
 use Rattle.std.proofs.lemmas.List.Elements.{All-filter, All-take}
 use Rattle.std.proofs.lemmas.List.Sorted.{All-permutation}
-use Rattle.std.proofs.Common.{All, ◌≡◌, List, map, ap, ◌∙◌}
+use Rattle.std.proofs.Common.{All, ◌≡◌, List, map, refl, ap, ◌∙◌}
 use Rattle.olr_keys.specs.Answers.{AreAnswers}
 use Rattle.olr_keys.specs.Key.{KeyValue}
 use Rattle.olr_keys.specs.Laws.{KeysAreInRange}
@@ -10,7 +10,7 @@ use Rattle.olr_road.specs.RoadMap.{RoadMap}
 use Rattle.olr_matching.specs.Layers.{LayersValue}
 use Rattle.olr_places.specs.Looking.{IsLooked, Looked, openers_of}
 use Rattle.olr_places.specs.Places.{ArePlacesOf, entry_of}
-use Rattle.olr_places.specs.Looking.{next_after}
+use Rattle.olr_places.specs.Looking.{key_behind}
 use Rattle.olr_places.specs.declared.limits.PlaceLimits.{PlaceLimits}
 use Rattle.olr_places.specs.declared.opener.Opener.{Opener}
 use Rattle.olr_places.specs.declared.places.Places.{Places}
@@ -52,12 +52,11 @@ module _ (road : RoadMap) (layers : LayersValue) (limits widest : PlaceLimits)
   looked_at = record {
     openers_are = ap (map entry_of) ranked.openers_are ∙ open_all;
     counted = rw ranked.openers_are are.counted;
-    ranks = ranked.ranks;
-    costs = ranked.costs;
+    ranked = record { openers_are = refl; ranks = ranked.ranks; costs = ranked.costs };
   }
 
   pub are_likely : (likely : LikelyPlaces)
-      → IsAnswerOf limits found.looked found.ending (next_after found.ending found.last) places
+      → IsAnswerOf limits found.looked found.ending (key_behind found.ending found.last) places
       likely → AreLikelyPlaces limits road layers likely
   are_likely likely is = record {
     widest = widest;

@@ -15,7 +15,7 @@ use Rattle.olr_report.specs.Entries.{IsEntryAt, Entry, keys_of}
 use Rattle.olr_places.proofs.Opening.{first_opens}
 use Rattle.olr_places.specs.Looking.{IsLooked, openers_of, Looked}
 use Rattle.olr_places.specs.Places.{entry_of}
-use Rattle.olr_places.specs.Looking.{next_after}
+use Rattle.olr_places.specs.Looking.{key_behind}
 use Rattle.olr_places.specs.declared.ending.Ending.{Ending}
 use Rattle.olr_places.specs.declared.ending.Ending.TheVariants.{Beyond, Cut, NoMore}
 use Rattle.olr_places.specs.declared.limits.PlaceLimits.{PlaceLimits}
@@ -41,7 +41,7 @@ no_less last key before = elim before [
 
 -- where looking was cut off, something was looked at
 some_looked : (ending : Ending) (matchings : List Entry) (last : KeyValue)
-    → next_after ending (last_of None (keys_of matchings)) ≡ Some last
+    → key_behind ending (last_of None (keys_of matchings)) ≡ Some last
     → (first : Entry) × (others : List Entry) × (matchings ≡ first ∷ others)
 some_looked NoMore matchings last is = absurd cc
 some_looked (Beyond gap) matchings last is = absurd cc
@@ -138,7 +138,7 @@ module _ (totals : TotalsAreOfParts) (road : RoadMap) (layers : LayersValue)
       each : All (CostsAtLeast (6 * first.key.total)) places
       each k d inside =
           let later = opened k d inside in
-          let cost = are.costs k d inside in
+          let cost = are.ranked.costs k d inside in
           omega (
             arith,
             later.later,

@@ -18,10 +18,11 @@ use Rattle.olr_places.specs.Limits.{IsInRange}
 use Rattle.olr_places.specs.Looking.{IsLooked, Looked, gap_of}
 use Rattle.olr_places.specs.Places.{AreCounted, ArePlacesOf, entry_of}
 use Rattle.olr_places.specs.Looking.{next_of}
+use Rattle.olr_places.specs.Verdict.{verdict_by}
 use Rattle.olr_places.specs.declared.limits.PlaceLimit.TheVariants.{Apart, Look, Most, Within}
 use Rattle.olr_places.specs.declared.limits.PlaceLimits.{PlaceLimits}
 use Rattle.olr_places.specs.declared.opener.Opener.{Opener}
-use Rattle.olr_likely.specs.Answer.{is_cut, verdict_by}
+use Rattle.olr_likely.specs.Answer.{ending_within, is_cut}
 use Rattle.olr_likely.specs.Asking.{AreAsked, AreFoundByCost, AreFoundByTotal, AreFoundIn}
 use Rattle.olr_likely.specs.Finding.{AreWidest}
 use Rattle.olr_likely.specs.OneAnswer.{LawsBelow, OneJson, OneLooking, OneText}
@@ -32,7 +33,7 @@ use Rattle.olr_likely.specs.declared.asking.PlaceOrder.TheVariants.{Likely, Tota
 use Rattle.olr_likely.specs.declared.ranked.RankedPlace.{RankedPlace}
 use Rattle.olr_likely.specs.declared.showing.ShownPlace.{ShownPlace}
 use Rattle.olr_likely.specs.declared.showing.ShownPlaces.{ShownPlaces}
-use Rattle.olr_likely.proofs.OneOrder.{one_count, one_cut, one_listed, one_margin, shown_once}
+use Rattle.olr_likely.proofs.OneOrder.{one_cut, one_ending, one_listed, one_margin, shown_once}
 use Rattle.olr_likely.proofs.ByTotal.{next_is, verdict_is}
 use Rattle.olr_likely.proofs.Values.{AreAlike, OpenerValue, RankedValue, ShownValue, opener_value, ranked_value, same_json, same_made, same_parts, same_text, shown_value}
 
@@ -113,7 +114,7 @@ module _ (road : RoadMap) where
       ranked_once 1 ones others
       (openers_once limits matchings 0 (openers_in ones) (openers_in others)
       (are.openers_are ∙ sym their.openers_are) are.counted their.counted)
-      are.ranks their.ranks are.costs their.costs
+      are.ranked.ranks their.ranked.ranks are.ranked.costs their.ranked.costs
 
 -- ---- the widest limits
 
@@ -229,9 +230,10 @@ module _ (below : LawsBelow) (looking : OneLooking) (limits : PlaceLimits) (road
       let answer = are.is_answer in
       let reanswer = their.is_answer in
       let listed = one_listed are.places their.places places limits.within in
-      let count = one_count are.places their.places places in
+      let ending = one_ending limits.within are.looked.ending are.places their.places places
+      ∙ ap (λ (l : Looked). ending_within limits.within their.places l.ending) looked in
       let verdict = answer.verdict_is
-      ∙ (λ k. verdict_by (length (looked k).matchings) (listed k) (count k) (looked k).ending)
+      ∙ (λ k. verdict_by (length (looked k).matchings) (listed k) (ending k))
       ∙ sym reanswer.verdict_is in
       let cut = answer.cut_is
       ∙ one_cut limits.within (next_of are.looked) are.places their.places places

@@ -4,11 +4,14 @@ use Rattle.std.proofs.Common.{◌≡◌, ℕ, ◌+◌, ◌*◌, ◌<◌, ◌⊎�
 use Rattle.std.proofs.lemmas.Bool.{cases_Bool}
 use Rattle.std.proofs.lemmas.List.{get_or-map, length-map, take-map}
 use Rattle.std.proofs.lemmas.List.Sorted.{Contains-permutation, IsPermutation-map, IsPermutation-sym}
-use Rattle.std.specs.Prelude.{AllPairs, Contains, IsPermutation, option_map, slice_get}
+use Rattle.std.specs.Option.{option_map_or}
+use Rattle.std.specs.Prelude.{AllPairs, Contains, IsPermutation, find, nat_lt, option_map, slice_get}
 use Rattle.olr_base.proofs.Rising.{same_list}
 use Rattle.olr_keys.specs.Key.{KeyValue}
+use Rattle.olr_places.specs.declared.ending.Ending.{Ending}
+use Rattle.olr_places.specs.declared.ending.Ending.TheVariants.{Beyond}
 use Rattle.olr_places.specs.declared.limits.PlaceLimits.{PlaceLimits}
-use Rattle.olr_likely.specs.Answer.{count_listed, is_cut, is_listed, margin_of}
+use Rattle.olr_likely.specs.Answer.{count_listed, ending_within, is_cut, is_listed, second_gap}
 use Rattle.olr_likely.specs.Order.{AreInLikelyOrder, AreShown, is_shown, least_cost}
 use Rattle.olr_likely.specs.declared.ranked.RankedPlace.{RankedPlace}
 use Rattle.olr_likely.proofs.Values.{RankedValue, ranked_value, same_parts}
@@ -92,10 +95,6 @@ one_least (one ∷ next ∷ ones) (other ∷ another ∷ others) same =
 
 module _ (ones others : List RankedPlace) (same : map ranked_value ones ≡ map ranked_value others)
   where
-    pub one_count : length ones ≡ length others
-    one_count = sym (length-map ones ranked_value) ∙ ap (λ (l : List RankedValue). length l) same
-        ∙ length-map others ranked_value
-
     pub one_listed : (within : ℕ) → count_listed within ones ≡ count_listed within others
     one_listed within =
         let test : RankedValue → Bool = λ value. nat_le value.opener.gap within in
@@ -130,16 +129,36 @@ abbrev gap_in : RankedValue → ℕ
 gap_in value = value.opener.gap
 
 margin_is : (places : List RankedPlace)
-    → margin_of places ≡ option_map gap_in (slice_get (map ranked_value places) 1)
+    → second_gap places ≡ option_map gap_in (slice_get (map ranked_value places) 1)
 margin_is [] = refl
 margin_is (one ∷ []) = refl
 margin_is (one ∷ next ∷ places) = refl
 
 pub one_margin : (ones others : List RankedPlace) → map ranked_value ones ≡ map ranked_value others
-    → margin_of ones ≡ margin_of others
+    → second_gap ones ≡ second_gap others
 one_margin ones others same =
     margin_is ones ∙ ap (λ (l : List RankedValue). option_map gap_in (slice_get l 1)) same
     ∙ sym (margin_is others)
+
+abbrev ending_by : ℕ → Ending → List RankedValue → Ending
+ending_by within ending values =
+    option_map_or (λ (value : RankedValue). Beyond (gap_in value))
+    (find (λ (value : RankedValue). nat_lt within (gap_in value)) values) ending
+
+ending_is : (within : ℕ) (ending : Ending) (places : List RankedPlace)
+    → ending_within within places ending ≡ ending_by within ending (map ranked_value places)
+ending_is within ending [] = refl
+ending_is within ending (place ∷ places) = elim (cases_Bool (nat_lt within place.opener.gap)) [
+  | inl greater ↦ rw greater refl
+  | inr lesser ↦ rw lesser (ending_is within ending places)
+]
+
+pub one_ending : (within : ℕ) (ending : Ending) (ones others : List RankedPlace)
+    → map ranked_value ones ≡ map ranked_value others
+    → ending_within within ones ending ≡ ending_within within others ending
+one_ending within ending ones others same =
+    ending_is within ending ones ∙ ap (ending_by within ending) same
+    ∙ sym (ending_is within ending others)
 
 pub one_cut : (within : ℕ) (next : Option KeyValue) (ones others : List RankedPlace)
     → map ranked_value ones ≡ map ranked_value others

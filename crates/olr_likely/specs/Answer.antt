@@ -1,19 +1,19 @@
 -- What is answered in the likely order: the places that are shown, and what is known of all that
 -- were looked at. Totals and gaps are in penalty points, costs in thirtieths of one.
-use Rattle.std.specs.Prelude.{◌≡◌, ℕ, ◌+◌, ◌*◌, Bool, false, List, [], ◌∷◌, length, filter, Option, None, Some, option_map, slice_get, ◌==◌, nat_le, nat_lt, if◌then◌else◌}
+use Rattle.std.specs.Prelude.{◌≡◌, ℕ, ◌+◌, ◌*◌, Bool, false, List, [], ◌∷◌, length, filter, find, Option, None, Some, option_map, slice_get, nat_le, nat_lt}
+use Rattle.std.specs.Option.{option_map_or}
 use Rattle.olr_keys.specs.Key.{KeyValue}
-use Rattle.olr_places.specs.Verdict.{verdict_of_one}
+use Rattle.olr_places.specs.Verdict.{verdict_by}
 use Rattle.olr_places.specs.declared.ending.Ending.{Ending}
-use Rattle.olr_places.specs.declared.ending.Verdict.{Verdict}
-use Rattle.olr_places.specs.declared.ending.Verdict.TheVariants as verdict
+use Rattle.olr_places.specs.declared.ending.Ending.TheVariants.{Beyond}
 use Rattle.olr_places.specs.declared.limits.PlaceLimits.{PlaceLimits}
 use Rattle.olr_likely.specs.Order.{AreShown, least_cost}
 use Rattle.olr_likely.specs.declared.answer.LikelyPlaces.{LikelyPlaces}
 use Rattle.olr_likely.specs.declared.ranked.RankedPlace.{RankedPlace}
 
 -- the margin: the gap of the second place that was looked at, if there is one
-abbrev pub margin_of : List RankedPlace → Option ℕ
-margin_of places = option_map (λ (place : RankedPlace). place.opener.gap) (slice_get places 1)
+abbrev pub second_gap : List RankedPlace → Option ℕ
+second_gap places = option_map (λ (place : RankedPlace). place.opener.gap) (slice_get places 1)
 
 -- a place is listed where its gap is at most what is asked for
 abbrev pub is_listed : ℕ → RankedPlace → Bool
@@ -23,15 +23,12 @@ is_listed within place = nat_le place.opener.gap within
 abbrev pub count_listed : ℕ → List RankedPlace → ℕ
 count_listed within places = length (filter (is_listed within) places)
 
--- The verdict by how many matchings were looked at, how many of the places are listed, how many
--- there are, and why looking ended: `none` where there is no matching; `ambiguous` where two places
--- or more are listed; `unique` where a place has a greater gap, or looking ended by itself; else
--- `open`.
-abbrev pub verdict_by : ℕ → ℕ → ℕ → Ending → Verdict
-verdict_by looked listed count ending =
-    if looked == 0 then verdict.None
-    else if nat_le 2 listed then verdict.Ambiguous
-    else if nat_lt listed count then verdict.Unique else verdict_of_one ending
+-- The verdict is that of the order of totals over these places. For it looking ended behind the first
+-- one with a gap greater than `within`, where there is one, else as it did.
+abbrev pub ending_within : ℕ → List RankedPlace → Ending → Ending
+ending_within within places ending =
+    option_map_or (λ (place : RankedPlace). Beyond place.opener.gap)
+    (find (λ (place : RankedPlace). nat_lt within place.opener.gap) places) ending
 
 -- Whether a place may be missing that would be shown, where looking was cut off behind the matching
 -- of a key: no matching behind it costs less than 6 times the total of this one.
@@ -48,7 +45,8 @@ pub record IsAnswerOf (limits : PlaceLimits) (looked : ℕ) (ending : Ending)
   pub shown : AreShown limits places likely.places.items
   pub looked_is : likely.looked ≡ looked
   pub next_is : likely.next ≡ next
-  pub margin_is : likely.margin ≡ margin_of places
+  pub margin_is : likely.margin ≡ second_gap places
   pub cut_is : likely.cut ≡ is_cut limits.within places next
   pub verdict_is : likely.verdict
-      ≡ verdict_by looked (count_listed limits.within places) (length places) ending
+      ≡ verdict_by looked (count_listed limits.within places)
+      (ending_within limits.within places ending)

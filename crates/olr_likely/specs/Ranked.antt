@@ -36,8 +36,7 @@ pub record AreLookedAt (road : RoadMap) (limits : PlaceLimits) (matchings : List
     (places : List RankedPlace) : Type 0 where
   pub openers_are : map entry_of (openers_in places) ≡ openers_of limits matchings
   pub counted : AreCounted limits matchings 0 (openers_in places)
-  pub ranks : AreNumbered places
-  pub costs : All (HasLikelyCost road) places
+  pub ranked : AreRanked road (openers_in places) places
 
 -- ---- what the calls need
 

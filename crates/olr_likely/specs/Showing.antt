@@ -9,7 +9,7 @@ use Rattle.olr_matching.specs.Layers.{LayersValue}
 use Rattle.olr_detail.specs.MatchingDetail.{IsMatchingDetail}
 use Rattle.olr_detail.specs.declared.matching_detail.MatchingDetail.{MatchingDetail}
 use Rattle.olr_places.specs.Places.{IsOpenerAt, verdict_in}
-use Rattle.olr_places.specs.Looking.{next_after}
+use Rattle.olr_places.specs.Looking.{key_behind}
 use Rattle.olr_places.specs.declared.opener.Opener.{Opener}
 use Rattle.olr_places.specs.declared.places.Places.{Places}
 use Rattle.olr_likely.specs.declared.answer.LikelyPlaces.{LikelyPlaces}
@@ -36,7 +36,7 @@ pub record AreShownByTotal (places : Places) (shown : ShownPlaces) : Type 0 wher
   pub places_are : shown.places.items ≡ map shown_by_total places.openers.items
   pub looked_is : shown.looked ≡ places.looked
   pub margin_is : shown.margin ≡ places.margin
-  pub next_is : shown.next ≡ next_after places.ending places.last
+  pub next_is : shown.next ≡ key_behind places.ending places.last
   pub cut_is : shown.cut ≡ None
   pub verdict_is : shown.verdict ≡ verdict_in places
 

@@ -1,7 +1,7 @@
 //! What is answered in the likely order: the places that are shown, and what is known of all.
 
-ghost use Rattle.std.specs.Prelude.{◌≡◌, IfOk, length, option_map};
-ghost use Rattle.olr_likely.specs.Answer.{IsAnswerOf, count_listed, is_cut, margin_of, verdict_by};
+ghost use Rattle.std.specs.Prelude.{◌≡◌, IfOk, option_map};
+ghost use Rattle.olr_likely.specs.Answer.{IsAnswerOf, count_listed, ending_within, is_cut, second_gap};
 ghost use Rattle.olr_likely.specs.Ranked.{AreNumbered};
 
 use crate::order::{least_cost, shown};
@@ -29,8 +29,8 @@ pub struct LikelyPlaces {
 }
 
 /// The gap of the second place that was looked at.
-fn margin_of(places: &[RankedPlace]) -> Option<u32>
-    ensures { result ≡ margin_of places.now }
+fn second_gap(places: &[RankedPlace]) -> Option<u32>
+    ensures { result ≡ second_gap places.now }
 {
     let second = places.get(1)?;
     Some(second.opener.gap)
@@ -46,23 +46,14 @@ fn count_listed(places: &[RankedPlace], within: u32) -> usize
         .count()
 }
 
-/// The verdict, by how many matchings were looked at, how many of the places are listed, how many
-/// there are, and why looking ended.
-fn verdict_by(looked: u32, listed: usize, count: usize, ending: Ending) -> Verdict
-    ensures { result ≡ verdict_by looked listed count ending }
+/// Why looking ended, for the verdict: behind the first place with a gap greater than `within`, else
+/// as it did.
+fn ending_within(places: &[RankedPlace], within: u32, ending: Ending) -> Ending
+    ensures { result ≡ ending_within within places.now ending }
 {
-    if looked == 0 {
-        return Verdict::None;
-    }
-    if listed >= 2 {
-        return Verdict::Ambiguous;
-    }
-    if listed < count {
-        return Verdict::Unique;
-    }
-    match ending {
-        Ending::NoMore | Ending::Beyond(_) => Verdict::Unique,
-        Ending::Cut => Verdict::Open,
+    match places.iter().find(|place| place.opener.gap > within) {
+        Some(place) => Ending::Beyond(place.opener.gap),
+        None => ending,
     }
 }
 
@@ -93,10 +84,10 @@ pub(crate) fn answer_of(
     requires { AreNumbered places.items }
     ensures { IfOk result (IsAnswerOf limits.now looked ending next places.items) }
 {
-    let margin = margin_of(&places);
+    let margin = second_gap(&places);
     let cut = is_cut(&places, next.as_ref(), limits.within);
     let listed = count_listed(&places, limits.within);
-    let verdict = verdict_by(looked, listed, places.len(), ending);
+    let verdict = ending_within(&places, limits.within, ending).verdict(looked, listed);
     Ok(LikelyPlaces {
         places: shown(places, limits)?,
         looked,

@@ -1,6 +1,6 @@
 //! The places of a reference in the likely order, from the layers of its candidates.
 
-ghost use Rattle.std.specs.Prelude.{◌≡◌, All, IfOk};
+ghost use Rattle.std.specs.Prelude.{All, IfOk};
 ghost use Rattle.olr_matching.specs.Layers.{AreLayersOn};
 ghost use Rattle.olr_matching.specs.Searches.{AreSearchesOn};
 ghost use Rattle.olr_likely.specs.Finding.{AreLikelyPlaces, AreWidest};
@@ -8,7 +8,6 @@ ghost use Rattle.olr_places.specs.Places.{IsOpenerAt};
 
 use crate::answer::{LikelyPlaces, answer_of};
 use crate::ranked::ranked;
-use crate::showing::next_after;
 use olr_base::NoMemory;
 use olr_detail::matchings_can_be_detailed;
 use olr_keys::keys_are_in_range;
@@ -60,6 +59,6 @@ pub fn likely_places(
         ..
     } = places_of(alloc, map, layers, searches, &widest(limits))?;
     let places = ranked(alloc, map, openers)?;
-    let likely = answer_of(places, looked, ending, next_after(ending, last), limits)?;
+    let likely = answer_of(places, looked, ending, ending.key_behind(last), limits)?;
     Ok(likely)
 }

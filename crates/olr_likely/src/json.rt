@@ -1,9 +1,7 @@
 //! The JSON of places as they are shown.
 
-ghost use Rattle.std.specs.Prelude.{IfOk, OnOk, string_bytes};
-ghost use Rattle.serde_json.specs.Data.{Data};
+ghost use Rattle.std.specs.Prelude.{IfOk, string_bytes};
 ghost use Rattle.olr_text.specs.JsonValues.{IsJsonLine};
-ghost use Rattle.olr_text.specs.Sent.{Sends};
 ghost use Rattle.olr_likely.specs.Json.{opener_object, place_object, shown_object};
 
 use crate::showing::{ShownPlace, ShownPlaces};

@@ -1,13 +1,12 @@
 //! Places as they are shown: in the order of totals or in the likely order, with what speaks for
 //! them or without.
 
-ghost use Rattle.std.specs.Prelude.{◌≡◌, All, IfOk, OnOk, map};
+ghost use Rattle.std.specs.Prelude.{◌≡◌, All, IfOk, map};
 ghost use Rattle.olr_road.specs.RoadMap.{RoadMap};
 ghost use Rattle.olr_matching.specs.Layers.{AreLayersOn, LayersValue};
 ghost use Rattle.olr_detail.specs.MatchingDetail.{CanBeDetailed};
 ghost use Rattle.olr_report.specs.Entries.{HasPieces};
 ghost use Rattle.olr_places.specs.Places.{IsOpenerAt};
-ghost use Rattle.olr_places.specs.Looking.{next_after};
 ghost use Rattle.olr_likely.specs.Showing.{AreInDetail, AreShownByCost, AreShownByTotal, IsShownAt, IsInDetail, IsPlaceInDetail, shown_by_cost, shown_by_total};
 
 use crate::answer::LikelyPlaces;
@@ -17,7 +16,7 @@ use olr_candidates::ReferenceOnMap;
 use olr_detail::{MatchingDetail, detail_of_matching, matchings_can_be_detailed};
 use olr_keys::Key;
 use olr_matching::Layers;
-use olr_places::{Ending, Opener, Places, Verdict};
+use olr_places::{Opener, Places, Verdict};
 use olr_road::Map;
 use std::alloc::Global;
 
@@ -56,16 +55,6 @@ pub struct ShownPlaces {
     pub cut: Option<bool>,
     /// Whether the match is unique.
     pub verdict: Verdict,
-}
-
-/// The key behind which looking was cut off.
-pub(crate) fn next_after(ending: Ending, last: Option<Key>) -> Option<Key>
-    ensures { result ≡ next_after ending last }
-{
-    match ending {
-        Ending::NoMore | Ending::Beyond(_) => None,
-        Ending::Cut => last,
-    }
 }
 
 /// The places of these openers, as the order of totals shows them.
@@ -124,7 +113,7 @@ pub fn shown_by_total(alloc: Global, places: Places) -> Result<ShownPlaces, NoMe
         places: places_by_total(alloc, openers)?,
         looked,
         margin,
-        next: next_after(ending, last),
+        next: ending.key_behind(last),
         cut: None,
         verdict,
     })
