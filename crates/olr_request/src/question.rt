@@ -15,14 +15,14 @@ use olr_why::NearestCount;
 pub enum QuestionKind {
     /// The candidates of each of its points.
     Candidates {
-        /// Whether with what speaks for each.
+        /// Whether each is told in detail: the parts of its penalty and what they come from.
         detail: bool,
     },
     /// Its matchings.
     Match {
         /// How many matchings a page has at most.
         size: PageSize,
-        /// Whether with what speaks for each.
+        /// Whether each is told in detail: the parts of its penalties and what they come from.
         detail: bool,
     },
     /// Its places, and whether its match is unique.
@@ -31,7 +31,7 @@ pub enum QuestionKind {
         limits: PlaceLimits,
         /// In which order they are shown.
         order: PlaceOrder,
-        /// Whether with what speaks for each.
+        /// Whether each is told in detail: the parts of its penalties and what they come from.
         detail: bool,
     },
     /// Why it has no matching and what would help, with so many of the lines nearest to each point

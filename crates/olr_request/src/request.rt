@@ -38,7 +38,7 @@ pub struct MatchRequest<'a> {
     pub size: PageSize,
     /// Which pages are printed.
     pub pages: Pages<'a>,
-    /// Whether a page says what speaks for each matching.
+    /// Whether a page tells each matching in detail.
     pub detail: bool,
     /// How a page is printed.
     pub format: Format,
@@ -55,7 +55,7 @@ pub struct PlacesRequest<'a> {
     pub limits: PlaceLimits,
     /// In which order the places are printed.
     pub order: PlaceOrder,
-    /// Whether what speaks for each place is printed.
+    /// Whether each place is told in detail.
     pub detail: bool,
     /// How the places are printed.
     pub format: Format,
@@ -90,7 +90,7 @@ pub enum Request<'a> {
         text: &'a str,
         /// How far a line may differ from what a point says.
         tolerances: Tolerances,
-        /// Whether what speaks for each candidate is printed.
+        /// Whether each candidate is told in detail.
         detail: bool,
         /// How the candidates are printed.
         format: Format,

@@ -17,6 +17,9 @@ const RECORDS: &[(&str, bool)] = &[
     ("show -- *", false),
     ("show -- *", false),
     ("match --page 3 -- ", true),
+    ("match --page 3 --detail -- *", false),
+    ("match --page 3 --detail -- *", true),
+    ("match --page 3 -- *", false),
 ];
 
 /// Whether the words of a text are those of the question that was kept last. Where they aren't, the

@@ -6,8 +6,8 @@ use Rattle.std.proofs.lemmas.List.{map-append}
 use Rattle.clap.specs.Words.{App, Rule, with_rule}
 use Rattle.olr_words.specs.Options.{OptionValue, RecordOption}
 use Rattle.olr_words.specs.RecordCommand.{record_option, record_options, record_rule, record_value, with_options}
-use Rattle.olr_words.specs.declared.command.CommandOption.{CommandOption}
-use Rattle.olr_words.specs.declared.command.Takes.TheVariants.{Reference}
+use Rattle.olr_words.specs.declared.options.CommandOption.{CommandOption}
+use Rattle.olr_words.specs.declared.options.Takes.TheVariants.{Reference}
 
 -- what stands where there is no element
 abbrev pub no_option : CommandOption

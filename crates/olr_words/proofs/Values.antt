@@ -6,7 +6,7 @@ use Rattle.std.proofs.lemmas.List.{at_drop_more, drop_at, take_at}
 use Rattle.std.proofs.lemmas.List.Elements.{All-append, All-cons, All-drop, All-head, All-tail, All-take}
 use Rattle.olr_words.specs.Options.{RecordOption}
 use Rattle.olr_words.specs.RecordCommand.{record_option, record_options}
-use Rattle.olr_words.specs.declared.command.CommandOption.{CommandOption}
+use Rattle.olr_words.specs.declared.options.CommandOption.{CommandOption}
 use Rattle.olr_words.proofs.RecordOptions.{no_option}
 
 -- all have a property as soon as these have it

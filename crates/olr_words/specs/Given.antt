@@ -5,6 +5,8 @@ use Rattle.olr_candidates.specs.Tolerances.{order_of, tolerance_name}
 use Rattle.olr_candidates.specs.declared.tolerances.Tolerance.{Tolerance}
 use Rattle.olr_likely.specs.declared.asking.PlaceOrder.{PlaceOrder}
 use Rattle.olr_likely.specs.declared.asking.PlaceOrder.TheVariants.{Likely, Total}
+use Rattle.olr_request.specs.declared.request.Format.{Format}
+use Rattle.olr_request.specs.declared.request.Format.TheVariants.{Json, Text}
 use Rattle.olr_words.specs.Options.{IsWholeNumber}
 use Rattle.olr_words.specs.declared.profile.Profile.{Profile}
 use Rattle.olr_words.specs.declared.profile.Profile.TheVariants.{Feed, Program}
@@ -27,6 +29,11 @@ IsProfileNamed name Program = name ≢ Some (codes "feed")
 abbrev pub IsOrderNamed : Option (List ℕ) → PlaceOrder → Type 0
 IsOrderNamed name Likely = name ≡ Some (codes "likely")
 IsOrderNamed name Total = name ≢ Some (codes "likely")
+
+-- the format of a name
+abbrev pub IsFormatNamed : Option (List ℕ) → Format → Type 0
+IsFormatNamed name Json = name ≡ Some (codes "json")
+IsFormatNamed name Text = name ≢ Some (codes "json")
 
 -- a flag is there: its text is `true`
 abbrev pub IsFlagOf : Option (List ℕ) → Bool → Type 0

@@ -7,10 +7,10 @@ use Rattle.clap.specs.Walk.{texts}
 use Rattle.clap.specs.declared.builder.action.ArgAction.{ArgAction}
 use Rattle.clap.specs.declared.builder.action.ArgAction.TheVariants.{SetTrue}
 use Rattle.olr_words.specs.Options.{OptionValue, RecordOption, option_named, number, one_of, json, cursor, flag}
-use Rattle.olr_words.specs.declared.command.CommandOption.{CommandOption}
+use Rattle.olr_words.specs.declared.options.CommandOption.{CommandOption}
 use Rattle.olr_words.specs.declared.command.Subcommand.{Subcommand}
-use Rattle.olr_words.specs.declared.command.Takes.{Takes}
-use Rattle.olr_words.specs.declared.command.Takes.TheVariants as takes
+use Rattle.olr_words.specs.declared.options.Takes.{Takes}
+use Rattle.olr_words.specs.declared.options.Takes.TheVariants as takes
 
 -- ---- the command of `clap`
 

@@ -1,8 +1,7 @@
 //! What words that aren't understood are rejected with, where it can be said what to write instead.
 
-use crate::command::{
-    CommandOption, EXPLAIN, Subcommand, batch_subcommand_named, command_of, subcommand_named,
-};
+use crate::command::{EXPLAIN, Subcommand, batch_subcommand_named, command_of, subcommand_named};
+use crate::options::CommandOption;
 use crate::rejected::Rejected;
 use clap::error::ErrorKind;
 use clap::{ArgMatches, Command, Error};

@@ -1,6 +1,7 @@
 //! The words of a command line, and those of a record: what they ask for.
 //!
-//! - [`command`]: the subcommands, options and texts of help, as `clap` takes them.
+//! - [`command`]: the subcommands, as `clap` takes them; [`options`]: their options and the texts of
+//!   help; [`place_order`]: the orders of places, by their names.
 //! - [`words`]: what the words ask for: a request or many records, and the files that they read; or
 //!   what a fault means.
 //! - [`record_words`]: the words of a record, and the reference behind them.
@@ -10,13 +11,13 @@
 //! - [`hints`]: what words that aren't understood are rejected with, where it can be said what to
 //!   write instead.
 //! - [`profile`]: the tolerances that stand for those which the words don't give.
-//! - [`place_order`]: the orders of places, by their names.
 //! - [`rejected`]: why nothing was written, the status for it, and the text that is printed.
 #![tactic(auto)]
 
 mod command;
 mod hints;
 mod last_question;
+mod options;
 mod place_order;
 mod profile;
 mod record;

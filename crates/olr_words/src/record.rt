@@ -18,8 +18,9 @@ ghost use Rattle.olr_words.specs.RecordCommand.{record_option, record_options};
 ghost use Rattle.olr_request.specs.declared.fault.Fault.TheVariants as fault;
 ghost use Rattle.olr_words.specs.declared.record.RecordFault.TheVariants as record_fault;
 
-use crate::command::{CommandOption, Subcommand, subcommand_named};
+use crate::command::{Subcommand, subcommand_named};
 use crate::last_question::LastQuestion;
+use crate::options::CommandOption;
 use crate::record_command::record_command_of;
 use crate::record_words::RecordWords;
 use crate::words::Given;

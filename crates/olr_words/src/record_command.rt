@@ -6,7 +6,8 @@ ghost use Rattle.olr_words.specs.RecordCommand.{bare_app, options_in, record_app
 ghost use Rattle.olr_words.specs.RecordCommand.{record_options, record_rule, reference_rule};
 ghost use Rattle.olr_words.specs.RecordCommand as specified;
 
-use crate::command::{CommandOption, Subcommand};
+use crate::command::Subcommand;
+use crate::options::CommandOption;
 use clap::{Arg, ArgAction, Command};
 use std::alloc::{AllocError, Global};
 

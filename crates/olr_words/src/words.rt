@@ -6,7 +6,8 @@ ghost use Rattle.olr_request.specs.declared.fault.Fault.TheVariants as fault;
 ghost use Rattle.olr_request.specs.declared.request.Format.TheVariants.{Json as JsonFormat};
 ghost use Rattle.olr_request.specs.declared.request.Request.TheVariants.{Show};
 ghost use Rattle.olr_words.specs.declared.words.MapSubcommand.{MapSubcommand as OfMap};
-ghost use Rattle.olr_words.specs.Given.{AreNumbers, AreTolerancesOf, IsFlagOf, IsGiven, IsNumberOf};
+ghost use Rattle.olr_words.specs.Given.{AreNumbers, AreTolerancesOf, IsFlagOf, IsFormatNamed};
+ghost use Rattle.olr_words.specs.Given.{IsGiven, IsNumberOf};
 ghost use Rattle.olr_words.specs.LastQuestion.{IsQuestionWithoutCursor};
 ghost use Rattle.olr_words.specs.Record.{IsOfSubcommand};
 ghost use Rattle.olr_words.specs.Words.{AreBoth, AreLimits, AreTolerances, IsNameOf, IsNearest};
@@ -181,8 +182,8 @@ impl GivenNumbers {
 
 /// What the words give to a subcommand, in range or not: the profile, the tolerances in the order of
 /// [`Tolerance::ALL`] and the units of [`Tolerance::least`], how many matchings a page has, the
-/// numbers for places and their order, how many lines near a point are printed, and whether with what
-/// speaks for each. `None` where a number is left out, or where the subcommand has no such option.
+/// numbers for places and their order, how many lines near a point are printed, and whether in
+/// detail. `None` where a number is left out, or where the subcommand has no such option.
 #[derive(Clone, Copy)]
 pub(crate) struct Given<'a> {
     text: &'a str,
@@ -203,6 +204,9 @@ impl<'a> Given<'a> {
     pub(crate) fn read(found: &ArgMatches<'a>, text: &'a str) -> Given<'a>
         ensures text { result.text ≡ text.entry }
         ensures given { IsGiven (first_value (found_of found.now)) result }
+        ensures pages { IsFlagOf (first_value (found_of found.now) (codes "all")) result.all }
+        ensures format { IsFormatNamed (first_value (found_of found.now) (codes "format"))
+            result.format }
     {
         Given {
             text,

@@ -2,7 +2,7 @@ use Rattle.std.proofs.Common.{◌∙◌, ◌+◌, [], Bor, List, ap, sym, get_or
 use Rattle.std.proofs.lemmas.List.{at_drop_more}
 use Rattle.clap.specs.Words.{app_of}
 use Rattle.olr_words.specs.RecordCommand.{record_options, with_options}
-use Rattle.olr_words.specs.declared.command.CommandOption.{CommandOption}
+use Rattle.olr_words.specs.declared.options.CommandOption.{CommandOption}
 use Rattle.olr_words.proofs.RecordOptions.{both}
 use Rattle.olr_words.proofs.Values.{of_groups}
 use Rattle.olr_words.proofs.record_command.record_command_of.Goals as goal

@@ -1,5 +1,5 @@
 use Rattle.olr_words.proofs.Tables.{any_of, contained}
-use Rattle.olr_words.proofs.command.CommandOption.takes_in_record.Goals as goal
+use Rattle.olr_words.proofs.options.CommandOption.takes_in_record.Goals as goal
 
 pub returns-in-OneOf : goal.returns-in-OneOf
 returns-in-OneOf c = rw c.in-OneOf.is (
