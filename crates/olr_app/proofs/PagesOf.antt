@@ -1,12 +1,16 @@
 -- The parts, the keys and the texts of pages, page by page; and why a page isn't there.
 use Rattle.std.proofs.Math.Seq.{take-suc}
 use Rattle.std.proofs.lemmas.List.Folds.{concat-append}
-use Rattle.olr_app.proofs.Common.{RoadMap, AreEntriesAt, Entry, IsMatchedBy, Matched, AreAnswers, IsPosition, KeyValue, IsKey, PageValue, IsPageAfter, IsRestAfter, Penalties, CursorRead, Mark, Page, LayersValue, key_of, ArePages, ArePagesAsked, values_of, AreTextsOfPages, IsDetailedPageOfParts, IsPageOfParts, IsTextOfPage, AndThen, IsStageFault, Fault, Format, MatchRequest, Bool, Pages, One, ◌≡◌, ℕ, List, [], ◌∷◌, Option, None, Some, Ok, Err, All, Contains, refl, inl, inr, ◌++◌, map, take, ap, sym, subst, ◌+◌, ◌≤◌, ◌<◌, add-one, length, true, false, ◌∙◌, append-nil, take_all, All-nil, All-cons, All-head, All-tail, All-take, All-contains, All-map, AllZip, concat, Result, slice_index_or, AreEntriesOf, IsEntryAt, IsEntryOf, keys_of}
-use Rattle.olr_detail.specs.MatchingDetail.{entries_of}
+use Rattle.olr_app.proofs.Common.{RoadMap, AreEntriesAt, Entry, IsMatchedBy, Matched, AreAnswers, IsPosition, KeyValue, IsKey, PageValue, IsPageAfter, IsRestAfter, Penalties, CursorRead, Mark, Page, LayersValue, key_of, ArePages, ArePagesAsked, values_of, AreTextsOfPages, IsTextOfPage, AndThen, IsStageFault, Fault, Format, MatchRequest, Bool, Pages, One, ◌≡◌, ℕ, List, [], ◌∷◌, Option, None, Some, Ok, Err, All, Contains, refl, inl, inr, ◌++◌, map, take, ap, sym, subst, ◌+◌, ◌≤◌, ◌<◌, add-one, length, true, false, ◌∙◌, append-nil, take_all, All-nil, All-cons, All-head, All-tail, All-take, All-contains, All-map, AllZip, concat, Result, slice_index_or, AreEntriesOf, IsEntryAt, IsEntryOf, keys_of}
+use Rattle.olr_app.specs.Page.{IsPageTextWith}
+use Rattle.olr_app.specs.inner.PageOfParts.{IsPageOfParts}
+use Rattle.olr_detail.specs.MatchingDetail.{Detailed, entries_of}
+use Rattle.olr_detail.specs.Page.{AreDetailed}
 use Rattle.olr_keys.specs.Headline.{joined}
 use Rattle.olr_keys.specs.Page.{page_of}
 use Rattle.olr_keys.specs.declared.pages.PageFault.{PageFault}
 use Rattle.olr_keys.specs.declared.pages.PageFault.TheVariants.{CursorNotHere, NoMemory}
+use Rattle.olr_report.specs.Text.{next_after}
 use Rattle.olr_road.proofs.Zips.{zip_push}
 use Rattle.olr_request.specs.Fault.{fault_of_page}
 use Rattle.olr_request.specs.declared.request.Format.TheVariants.{Json, Text}
@@ -152,46 +156,41 @@ module _ (road : RoadMap) (layers : LayersValue) where
         (sym are.matched_are) zip)) are.each;
   }
 
-  -- the text of a page, from that of the parts of its matchings
-  pub plain_page : (format : Format) (matched : List Matched) {page : PageValue}
+  -- the text of a page in detail, from that of the parts of its matchings and of their details
+  in_detail : (format : Format) (matched : List Matched) (all : List Detailed) {page : PageValue}
       {mark : Option Mark} {text : List ℕ}
       → AllZip (IsMatchedBy road layers) page.keys matched
-      → IsPageOfParts format road layers.reference page matched mark text
-      → IsTextOfPage false format road layers mark page text
-  plain_page Text matched zip is = record {
+      → AreDetailed layers.tolerances layers.reference road page matched all
+      → IsPageTextWith format road all (next_after page) mark text
+      → IsTextOfPage true format road layers mark page text
+  in_detail format matched all zip are text_is = record {
+    entries = entries_of all;
+    are = entries_at zip are.entries;
+    text_is = record {
+      all = all;
+      are = record { entries_are = refl; each = are.each };
+      text_is = text_is;
+    };
+  }
+
+  -- the text of a page, from that of the parts of its matchings
+  pub text_of_parts : (detail : Bool) (format : Format) (matched : List Matched) {page : PageValue}
+      {mark : Option Mark} {text : List ℕ}
+      → AllZip (IsMatchedBy road layers) page.keys matched
+      → IsPageOfParts detail format layers.tolerances layers.reference road page matched mark text
+      → IsTextOfPage detail format road layers mark page text
+  text_of_parts false Text matched zip is = record {
     entries = is.entries;
     are = entries_at zip is.are_entries;
     text_is = is.text_is;
   }
-  plain_page Json matched zip is = record {
+  text_of_parts false Json matched zip is = record {
     entries = is.entries;
     are = entries_at zip is.are_entries;
     text_is = is.json;
   }
-
-  pub detailed_page : (format : Format) (matched : List Matched) {page : PageValue}
-      {mark : Option Mark} {text : List ℕ}
-      → AllZip (IsMatchedBy road layers) page.keys matched
-      → IsDetailedPageOfParts format layers.tolerances layers.reference road page matched mark text
-      → IsTextOfPage true format road layers mark page text
-  detailed_page Text matched zip is = record {
-    entries = entries_of is.all;
-    are = entries_at zip is.are.entries;
-    text_is = record {
-      all = is.all;
-      are = record { entries_are = refl; each = is.are.each };
-      text_is = is.text_is;
-    };
-  }
-  detailed_page Json matched zip is = record {
-    entries = entries_of is.all;
-    are = entries_at zip is.are.entries;
-    text_is = record {
-      all = is.all;
-      are = record { entries_are = refl; each = is.are.each };
-      text_is = is.json;
-    };
-  }
+  text_of_parts true Text matched zip is = in_detail Text matched is.all zip is.are is.text_is
+  text_of_parts true Json matched zip is = in_detail Json matched is.all zip is.are is.json
 
 -- ---- the texts so far
 

@@ -11,3 +11,4 @@ pub mod Why
 pub mod Writing
 pub mod Answer
 pub mod Sources
+pub mod inner

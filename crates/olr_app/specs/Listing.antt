@@ -11,9 +11,9 @@ use Rattle.olr_candidates.specs.Points.{AreLists}
 use Rattle.olr_candidates.specs.declared.candidate.Candidate.{Candidate}
 use Rattle.olr_report.specs.Common.{id_at}
 use Rattle.olr_report.specs.Json.{candidate_object}
-use Rattle.olr_detail.specs.Json.{listing_object as detailed_object}
+use Rattle.olr_detail.specs.Json.{listing_object as detailed_listing}
 use Rattle.olr_detail.specs.Listing.{AreListsInDetail}
-use Rattle.olr_detail.specs.Text.{listing_text as detailed_text}
+use Rattle.olr_detail.specs.Text.{listing_text as detailed_listing_text}
 use Rattle.olr_detail.specs.declared.candidate_detail.CandidateDetail.{CandidateDetail}
 use Rattle.olr_app.specs.Stages.{OrTooMany}
 use Rattle.olr_request.specs.declared.fault.Fault.{Fault}
@@ -54,10 +54,10 @@ abbrev pub IsListingIn : Format → RoadMap → List (List Candidate) → List �
 IsListingIn Text road lists text = text ≡ texts_from (point_listing road) 1 lists
 IsListingIn Json road lists text = IsJsonLine (listing_object road lists) text
 
--- the same, where what speaks for each candidate is shown with it
-abbrev pub IsDetailedListingIn : Format → RoadMap → List (List CandidateDetail) → List ℕ → Type 0
-IsDetailedListingIn Text road details text = text ≡ detailed_text road details
-IsDetailedListingIn Json road details text = IsJsonLine (detailed_object road details) text
+-- the same with these details of the candidates: what speaks for each is shown with it
+abbrev pub IsListingTextWith : Format → RoadMap → List (List CandidateDetail) → List ℕ → Type 0
+IsListingTextWith Text road details text = text ≡ detailed_listing_text road details
+IsListingTextWith Json road details text = IsJsonLine (detailed_listing road details) text
 
 -- ---- in detail or not
 
@@ -66,7 +66,7 @@ pub record IsListingInDetail (format : Format) (tolerances : Tolerances) (refere
     (road : RoadMap) (lists : List (List Candidate)) (text : List ℕ) : Type 0 where
   pub details : List (List CandidateDetail)
   pub are : AreListsInDetail tolerances reference road.lines lists details
-  pub text_is : IsDetailedListingIn format road details text
+  pub text_is : IsListingTextWith format road details text
 
 -- the text of these candidates, in detail or not
 abbrev pub IsListingAsAsked : Bool → Format → Tolerances → Reference → RoadMap

@@ -1,15 +1,13 @@
 -- The text of a page of matchings, in either format, with what speaks for each matching or without.
 use Rattle.std.specs.Prelude.{◌≡◌, ℕ, Bool, true, false, List, Option}
-use Rattle.olr_app.specs.Common.{IsJsonLine, Reference, Tolerances, KeyValue, Mark, RoadMap, LayersValue}
+use Rattle.olr_app.specs.Common.{IsJsonLine, KeyValue, Mark, RoadMap, LayersValue}
 use Rattle.olr_keys.specs.Page.{PageValue}
-use Rattle.olr_matching.specs.declared.matched.Matched.{Matched}
 use Rattle.olr_report.specs.Entries.{AreEntriesAt, Entry}
-use Rattle.olr_report.specs.Json.{IsPageJson, page_object}
-use Rattle.olr_report.specs.Text.{IsPageText, next_after, page_text}
-use Rattle.olr_detail.specs.Json.{page_object as detailed_object}
+use Rattle.olr_report.specs.Json.{page_object}
+use Rattle.olr_report.specs.Text.{next_after, page_text}
+use Rattle.olr_detail.specs.Json.{page_object as detailed_page}
 use Rattle.olr_detail.specs.MatchingDetail.{AreInDetail, Detailed}
-use Rattle.olr_detail.specs.Page.{IsPageJson as IsDetailedJson, IsPageText as IsDetailedText}
-use Rattle.olr_detail.specs.Text.{page_text as detailed_text}
+use Rattle.olr_detail.specs.Text.{page_text as detailed_page_text}
 use Rattle.olr_request.specs.declared.request.Format.{Format}
 use Rattle.olr_request.specs.declared.request.Format.TheVariants.{Json, Text}
 
@@ -19,11 +17,11 @@ abbrev pub IsPageIn :
 IsPageIn Text road entries next mark text = text ≡ page_text road entries next mark
 IsPageIn Json road entries next mark text = IsJsonLine (page_object road entries next mark) text
 
--- the same, where what speaks for each matching is shown with it
-abbrev pub IsDetailedPageIn :
+-- the same with these details of the matchings: what speaks for each is shown with it
+abbrev pub IsPageTextWith :
     Format → RoadMap → List Detailed → Option KeyValue → Option Mark → List ℕ → Type 0
-IsDetailedPageIn Text road all next mark text = text ≡ detailed_text road all next mark
-IsDetailedPageIn Json road all next mark text = IsJsonLine (detailed_object road all next mark) text
+IsPageTextWith Text road all next mark text = text ≡ detailed_page_text road all next mark
+IsPageTextWith Json road all next mark text = IsJsonLine (detailed_page road all next mark) text
 
 -- the text of a page of these matchings in detail: with what speaks for each of them
 pub record IsPageInDetail (format : Format) (road : RoadMap) (layers : LayersValue)
@@ -31,7 +29,7 @@ pub record IsPageInDetail (format : Format) (road : RoadMap) (layers : LayersVal
     : Type 0 where
   pub all : List Detailed
   pub are : AreInDetail layers.tolerances layers.reference road entries all
-  pub text_is : IsDetailedPageIn format road all next mark text
+  pub text_is : IsPageTextWith format road all next mark text
 
 -- the text of a page of these matchings, in detail or not
 abbrev pub IsPageAsAsked : Bool → Format → RoadMap → LayersValue → List Entry → Option KeyValue
@@ -45,17 +43,3 @@ pub record IsTextOfPage (detail : Bool) (format : Format) (road : RoadMap) (laye
   pub entries : List Entry
   pub are : AreEntriesAt road layers page.keys entries
   pub text_is : IsPageAsAsked detail format road layers entries (next_after page) mark text
-
--- ---- by the parts of the matchings
-
--- the text of a page whose keys have these parts, in a format
-abbrev pub IsPageOfParts : Format → RoadMap → Reference → PageValue → List Matched → Option Mark
-    → List ℕ → Type 0
-IsPageOfParts Text = IsPageText
-IsPageOfParts Json = IsPageJson
-
--- the same, with what speaks for each matching
-abbrev pub IsDetailedPageOfParts : Format → Tolerances → Reference → RoadMap → PageValue
-    → List Matched → Option Mark → List ℕ → Type 0
-IsDetailedPageOfParts Text = IsDetailedText
-IsDetailedPageOfParts Json = IsDetailedJson

@@ -3,15 +3,14 @@
 ghost use Rattle.std.specs.Prelude.{◌≡◌, IfErr, IfOk, Ok, string_bytes};
 ghost use Rattle.olr_candidates.specs.Points.{AreLists, lists_of};
 ghost use Rattle.olr_text.specs.Texts.{texts_from};
-ghost use Rattle.olr_detail.specs.Listing.{details_of};
-ghost use Rattle.olr_app.specs.Listing.{IsDetailedListingIn, IsListed, IsListingIn, IsListingInDetail, candidate_row, point_listing};
+ghost use Rattle.olr_app.specs.Listing.{IsListed, IsListingAsAsked, candidate_row, point_listing};
 ghost use Rattle.olr_app.specs.Stages.{IsStageFault};
 
 use crate::listing_json::json_of_lists;
 use arrayvec::ArrayVec;
 use olr_base::NoMemory;
 use olr_candidates::{Candidate, MAX_CANDIDATES, ReferenceOnMap, candidates_of_points};
-use olr_detail::{PointDetails, listing_details, listing_json, listing_text};
+use olr_detail::{listing_details, listing_json, listing_text};
 use olr_report::shown_id;
 use olr_request::{Fault, Format};
 use olr_road::{Map, Place};
@@ -64,53 +63,25 @@ fn text_of_lists(
     Ok(text)
 }
 
-/// The candidates of each point, in a format.
+/// The candidates of each point, in detail or not, in a format.
 fn printed_lists(
-    alloc: Global,
-    map: &Map,
-    lists: &[ArrayVec<Candidate, MAX_CANDIDATES>],
-    format: Format,
-) -> Result<String, NoMemory>
-    ensures { IfOk result (λ text.
-        IsListingIn format map.now (lists_of lists.now) (string_bytes text)) }
-{
-    match format {
-        Format::Text => text_of_lists(alloc, map, lists),
-        Format::Json => json_of_lists(alloc, map, lists),
-    }
-}
-
-/// What speaks for the candidates of each point, in a format.
-fn printed_details(
-    alloc: Global,
-    map: &Map,
-    details: &[PointDetails],
-    format: Format,
-) -> Result<String, NoMemory>
-    ensures { IfOk result (λ text.
-        IsDetailedListingIn format map.now (details_of details.now) (string_bytes text)) }
-{
-    match format {
-        Format::Text => listing_text(alloc, map, details),
-        Format::Json => listing_json(alloc, map, details),
-    }
-}
-
-/// The candidates of each point with what speaks for each, in a format.
-fn detailed_lists(
     alloc: Global,
     on: &ReferenceOnMap<'_>,
     lists: &[ArrayVec<Candidate, MAX_CANDIDATES>],
+    detail: bool,
     format: Format,
 ) -> Result<String, NoMemory>
     requires { AreLists on.now.tolerances on.now.reference.now on.now.map.now.lines
         (lists_of lists.now) }
-    ensures { IfOk result (λ text. IsListingInDetail format on.now.tolerances
+    ensures { IfOk result (λ text. IsListingAsAsked detail format on.now.tolerances
         on.now.reference.now on.now.map.now (lists_of lists.now) (string_bytes text)) }
 {
-    let details = listing_details(alloc, on, lists)?;
-    let text = printed_details(alloc, on.map, &details, format)?;
-    Ok(text)
+    match (detail, format) {
+        (false, Format::Text) => text_of_lists(alloc, on.map, lists),
+        (false, Format::Json) => json_of_lists(alloc, on.map, lists),
+        (true, Format::Text) => listing_text(alloc, on.map, &listing_details(alloc, on, lists)?),
+        (true, Format::Json) => listing_json(alloc, on.map, &listing_details(alloc, on, lists)?),
+    }
 }
 
 /// The text of the candidates of each point of a reference, in a format, in detail or not.
@@ -131,10 +102,6 @@ pub(crate) fn listing_of(
         (IsListed detail format on.now.tolerances on.now.reference.now on.now.map.now)) }
 {
     let lists = candidates_of_points(alloc, on.map, on.reference, &on.tolerances)?;
-    if detail {
-        let text = detailed_lists(alloc, on, &lists, format)?;
-        return Ok(text);
-    }
-    let text = printed_lists(alloc, on.map, &lists, format)?;
+    let text = printed_lists(alloc, on, &lists, detail, format)?;
     Ok(text)
 }

@@ -5,9 +5,9 @@ ghost use Rattle.std.specs.List.{AllZip};
 ghost use Rattle.olr_keys.specs.Matching.{IsKey};
 ghost use Rattle.olr_keys.specs.Page.{page_of};
 ghost use Rattle.olr_matching.specs.Matched.{IsMatchedBy};
-ghost use Rattle.olr_report.specs.Entries.{CanBeShown};
 ghost use Rattle.olr_detail.specs.Page.{CanBeShownInDetail};
-ghost use Rattle.olr_app.specs.Page.{IsDetailedPageOfParts, IsPageOfParts, IsTextOfPage};
+ghost use Rattle.olr_app.specs.Page.{IsTextOfPage};
+ghost use Rattle.olr_app.specs.inner.PageOfParts.{IsPageOfParts};
 
 use olr_base::NoMemory;
 use olr_candidates::ReferenceOnMap;
@@ -44,46 +44,27 @@ fn matched_on_page(
     Ok(matched)
 }
 
-/// The text of a page in a format, by the parts of its matchings.
-fn plain_page(
+/// The text of a page as it is asked for, by the parts of its matchings.
+fn page_of_parts(
     alloc: Global,
     on: &ReferenceOnMap<'_>,
     page: &Page,
     matched: &[Matched],
     mark: Option<&Mark>,
-    format: Format,
-) -> Result<String, NoMemory>
-    requires one_each { length matched.now ≡ length page.now.keys.items }
-    requires shown { All (CanBeShown on.now.map.now on.now.reference.now) matched.now }
-    ensures { let mark = option_map (λ mark. mark.now) mark.entry in IfOk result (λ text.
-        IsPageOfParts format on.now.map.now on.now.reference.now (page_of page.now) matched.now
-        mark (string_bytes text)) }
-{
-    match format {
-        Format::Text => text_page(alloc, on.map, on.reference, page, matched, mark),
-        Format::Json => json_page(alloc, on.map, on.reference, page, matched, mark),
-    }
-}
-
-/// The same, with what speaks for each matching.
-fn detailed_page(
-    alloc: Global,
-    on: &ReferenceOnMap<'_>,
-    page: &Page,
-    matched: &[Matched],
-    mark: Option<&Mark>,
-    format: Format,
+    asked: &MatchRequest<'_>,
 ) -> Result<String, NoMemory>
     requires one_each { length matched.now ≡ length page.now.keys.items }
     requires shown { All (CanBeShownInDetail on.now.tolerances on.now.reference.now
         on.now.map.now) matched.now }
     ensures { let mark = option_map (λ mark. mark.now) mark.entry in IfOk result (λ text.
-        IsDetailedPageOfParts format on.now.tolerances on.now.reference.now on.now.map.now
-        (page_of page.now) matched.now mark (string_bytes text)) }
+        IsPageOfParts asked.now.detail asked.now.format on.now.tolerances on.now.reference.now
+        on.now.map.now (page_of page.now) matched.now mark (string_bytes text)) }
 {
-    match format {
-        Format::Text => text_page_in_detail(alloc, on, page, matched, mark),
-        Format::Json => json_page_in_detail(alloc, on, page, matched, mark),
+    match (asked.detail, asked.format) {
+        (false, Format::Text) => text_page(alloc, on.map, on.reference, page, matched, mark),
+        (false, Format::Json) => json_page(alloc, on.map, on.reference, page, matched, mark),
+        (true, Format::Text) => text_page_in_detail(alloc, on, page, matched, mark),
+        (true, Format::Json) => json_page_in_detail(alloc, on, page, matched, mark),
     }
 }
 
@@ -108,10 +89,6 @@ pub(crate) fn text_of_page(
         reference: layers.reference(),
         tolerances: *layers.tolerances(),
     };
-    if asked.detail {
-        let text = detailed_page(alloc, &on, page, &matched, mark, asked.format)?;
-        return Ok(text);
-    }
-    let text = plain_page(alloc, &on, page, &matched, mark, asked.format)?;
+    let text = page_of_parts(alloc, &on, page, &matched, mark, asked)?;
     Ok(text)
 }
