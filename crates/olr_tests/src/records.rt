@@ -3,7 +3,7 @@
 
 use crate::devices::{Given, NEVER, Taken};
 use crate::samples::STREET;
-use olr_app::{Fault, In, PageSize, Question, QuestionKind, Tolerances};
+use olr_app::{Fault, In, PageSize, Question, QuestionKind, Sink, Tolerances};
 use olr_batch::run_batch;
 use olr_keys::BadPage;
 use olr_words::Records;
