@@ -1,5 +1,5 @@
 -- The names that most proofs of this crate speak of, passed on from one place.
-pub use Rattle.std.proofs.Common.{◌%◌, ◌+◌, ◌++◌, ◌/◌, ◌<◌, Bool, Bor, Err, List, None, Ok, Option, Some, [], ◌^◌, ap, append_assoc, arith, codes, drop, false, get_or, inl, inr, length, length-append, length-take, refl, subst, suc, sym, true, zero, ℕ, ◌∙◌, ◌∷◌, ◌≡◌, ◌≤◌}
+pub use Rattle.std.proofs.Common.{◌+◌, ◌++◌, ◌<◌, Bool, Bor, Err, List, None, Ok, Option, Some, [], ◌^◌, ap, append_assoc, arith, codes, drop, false, inl, inr, length, length-append, length-take, refl, subst, suc, sym, true, ℕ, ◌∙◌, ◌∷◌, ◌≡◌, ◌≤◌}
 pub use Rattle.std.proofs.lemmas.List.Elements.{All-append, All-cons, All-contains, All-head, All-nil, All-tail, All-weaker, Contains-append_left, Contains-append_right}
 pub use Rattle.std.proofs.lemmas.List.{append-nil, append_cancel_left, append_cancel_right, length-drop, map-append, take-append-drop, take_all}
 pub use Rattle.std.proofs.lemmas.Option.{none-some, same_Some}
@@ -11,7 +11,7 @@ pub use Rattle.olr_app.proofs.Single.{IsSingle, first_then, no_fault_once, no_ok
 pub use Rattle.olr_app.specs.Accepting.{IsStart, Accepts, OneOutcome}
 pub use Rattle.olr_app.specs.Answer.{IsOutput, IsAnswerOf, IsAnswerOn, IsMapOfFiles, IsAnswer}
 pub use Rattle.olr_app.specs.Matching.{AreLayers, IsOfInputs, key_of, AreMatchings, ArePagesAsked, ArePages, IsPrinted, IsStartHere, OnLayers, OnStart}
-pub use Rattle.olr_app.specs.Page.{IsDetailedPageIn, IsPageAsAsked, IsPageIn, IsTextOfPage}
+pub use Rattle.olr_app.specs.Page.{IsPageAsAsked, IsPageIn, IsPageTextWith, IsTextOfPage}
 pub use Rattle.olr_app.specs.Stages.{AndThen}
 pub use Rattle.olr_app.specs.declared.accepting.Accepted.{Accepted}
 pub use Rattle.olr_app_laws.specs.AnswerLaws.{FaultIsOfRun, IsSameOutput, OneAnswerOfMany, OutputIsOfRun, ShowsSame}
@@ -37,7 +37,7 @@ pub use Rattle.olr_keys.specs.declared.mark.Mark.{Mark}
 pub use Rattle.olr_map.specs.Files.{IsMapOf, Texts, known}
 pub use Rattle.olr_matching.specs.Layers.{LayersValue}
 pub use Rattle.olr_report.specs.Entries.{AreEntriesAt, Entry, IsEntryAt}
-pub use Rattle.olr_report.specs.Json.{entry_object, next_value, page_object}
+pub use Rattle.olr_report.specs.Json.{entry_object, next_value}
 pub use Rattle.olr_report.specs.Text.{entries_rows, next_after}
 pub use Rattle.olr_report.specs.TextRows.{end_row, entry_rows, leg_rows, location_rows, part_row, pieces_row, place_row, point_rows}
 pub use Rattle.olr_request.specs.Fault.{fault_of_map, fault_of}

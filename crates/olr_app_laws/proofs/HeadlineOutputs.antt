@@ -1,5 +1,5 @@
 -- What an output shows, in either format: a page shows its entries, and an output shows one thing.
-use Rattle.olr_app_laws.proofs.Common.{items_of, cursor_text, KeyValue, LayersValue, Mark, RoadMap, entries_rows, IsDetailedPageIn, IsPageAsAsked, IsPageIn, Format, All-append, Bool, true, false, sym, ap, ◌+◌, ◌∙◌, Json, Text, ◌≡◌, ℕ, List, [], ◌∷◌, ◌++◌, Option, None, Some, refl, append_assoc, arith, option_map, append_cancel_left, append_cancel_right, map-append, same_Some, Data, Items, array, Entry, entry_object, next_value, end_row, AreRows, IsLastRow, IsObject, ArePartsOf, Part, Shows, detailed_parts_of, last_row_of, next_of, parts_of}
+use Rattle.olr_app_laws.proofs.Common.{items_of, cursor_text, KeyValue, LayersValue, Mark, RoadMap, entries_rows, IsPageAsAsked, IsPageIn, IsPageTextWith, Format, All-append, Bool, true, false, sym, ap, ◌+◌, ◌∙◌, Json, Text, ◌≡◌, ℕ, List, [], ◌∷◌, ◌++◌, Option, None, Some, refl, append_assoc, arith, option_map, append_cancel_left, append_cancel_right, map-append, same_Some, Data, Items, array, Entry, entry_object, next_value, end_row, AreRows, IsLastRow, IsObject, ArePartsOf, Part, Shows, detailed_parts_of, last_row_of, next_of, parts_of}
 use Rattle.olr_report.specs.JsonLaws.{JsonReadsAsPage}
 use Rattle.olr_app_laws.proofs.HeadlineTexts.{one_last_row}
 use Rattle.olr_app_laws.proofs.HeadlineTexts.{IsInRangeIfAny, detailed_are_rows, end_is_row, entries_are_rows}
@@ -51,7 +51,7 @@ plain_shows reads Json road entries next mark output in_range is = grind (arith,
 -- so does a page in detail, with what speaks for each
 detailed_shows : (format : Format) (road : RoadMap) (all : List Detailed)
     (next : Option KeyValue) (mark : Mark) (output : List ℕ) → IsInRangeIfAny next
-    → IsDetailedPageIn format road all next (Some mark) output
+    → IsPageTextWith format road all next (Some mark) output
     → Shows format (detailed_parts_of format road all) (next_cursor next mark) output
 detailed_shows Text road all next mark output in_range is =
     text_shows (texts_of (detailed_rows road) all) output next mark (detailed_are_rows road all)

@@ -1,5 +1,5 @@
 -- The answer of one of many requests is that of a run, but for its marks.
-use Rattle.olr_app_laws.proofs.Common.{arith, RoadMap, IsSoundMap, Accepted, Fault, Accepts, IsAnswerOf, IsAnswerOn, IsMapOfFiles, IsDetailedPageIn, IsPageAsAsked, IsTextOfPage, AreAnswers, Entry, KeyValue, LayersValue, Mark, Bool, IsPageAfter, next_after, key_of, AreMatchings, AndThen, MatchRequest, Json, One, Request, Candidates, Match, Places, Show, ◌≡◌, ℕ, true, false, List, Option, None, Some, Ok, Err, Bor, refl, sym, subst, ◌∙◌, inl, inr, Result, Laws, IsMapOf, Texts, known, FaultIsOfRun, IsSameOutput, OneAnswerOfMany, OutputIsOfRun, ShowsSame, ReadsMap, Why, accepted_once, on_map, first_then, same_ok}
+use Rattle.olr_app_laws.proofs.Common.{arith, RoadMap, IsSoundMap, Accepted, Fault, Accepts, IsAnswerOf, IsAnswerOn, IsMapOfFiles, IsPageAsAsked, IsPageTextWith, IsTextOfPage, AreAnswers, Entry, KeyValue, LayersValue, Mark, Bool, IsPageAfter, next_after, key_of, AreMatchings, AndThen, MatchRequest, Json, One, Request, Candidates, Match, Places, Show, ◌≡◌, ℕ, true, false, List, Option, None, Some, Ok, Err, Bor, refl, sym, subst, ◌∙◌, inl, inr, Result, Laws, IsMapOf, Texts, known, FaultIsOfRun, IsSameOutput, OneAnswerOfMany, OutputIsOfRun, ShowsSame, ReadsMap, Why, accepted_once, on_map, first_then, same_ok}
 use Rattle.olr_app.proofs.AnswerOf.{answer_of_files}
 use Rattle.olr_app_laws.proofs.OneAnswer.{detailed_once, on_map_once}
 use Rattle.olr_app_laws.specs.AnswerLaws.{IsSamePageAsAsked}
@@ -35,7 +35,7 @@ shown_alike laws true road layers entries next mark other text again is its =
     record {
       all = its.all;
       next = next;
-      text_is = subst (λ list. IsDetailedPageIn Json road list next mark text) all is.text_is;
+      text_is = subst (λ list. IsPageTextWith Json road list next mark text) all is.text_is;
       again_is = its.text_is;
     }
 

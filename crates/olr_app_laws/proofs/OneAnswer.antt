@@ -1,6 +1,6 @@
 -- A request has one answer by known texts, from the laws of the crates below.
 use Rattle.olr_text.specs.JsonValues.{IsJsonLine}
-use Rattle.olr_app_laws.proofs.Common.{Reference, IsSoundMap, RoadMap, AreLists, Entry, Candidate, Tolerances, AreAnswers, KeyValue, IsKey, IsPageAfter, PageValue, Penalties, CursorRead, Mark, LayersValue, next_after, IsStart, Accepts, IsAnswer, IsAnswerOf, IsAnswerOn, IsMapOfFiles, fault_of_map, fault_of, OneOutcome, AreLayers, AreMatchings, ArePages, ArePagesAsked, IsOfInputs, IsDetailedPageIn, IsPageAsAsked, IsPageIn, IsPrinted, IsStartHere, IsTextOfPage, OnLayers, OnStart, key_of, text_of, Accepted, TooManyCandidates, Format, Json, Text, MatchRequest, Pages, One, Request, Candidates, Match, Places, Show, ◌≡◌, ℕ, ◌+◌, suc, Bool, true, false, List, [], ◌∷◌, None, Option, Some, Ok, Err, refl, ap, sym, subst, ◌∙◌, arith, inl, inr, All, All-contains, All-head, All-tail, none-some, AllZip, concat, Contains, IfSome, if◌then◌else◌, Data, Laws, known, RefusedByName, cursor_in, Why, accepted_once, IsSingle, first_then, no_fault_once, no_ok_and_err, same_err}
+use Rattle.olr_app_laws.proofs.Common.{Reference, IsSoundMap, RoadMap, AreLists, Entry, Candidate, Tolerances, AreAnswers, KeyValue, IsKey, IsPageAfter, PageValue, Penalties, CursorRead, Mark, LayersValue, next_after, IsStart, Accepts, IsAnswer, IsAnswerOf, IsAnswerOn, IsMapOfFiles, fault_of_map, fault_of, OneOutcome, AreLayers, AreMatchings, ArePages, ArePagesAsked, IsOfInputs, IsPageAsAsked, IsPageIn, IsPageTextWith, IsPrinted, IsStartHere, IsTextOfPage, OnLayers, OnStart, key_of, text_of, Accepted, TooManyCandidates, Format, Json, Text, MatchRequest, Pages, One, Request, Candidates, Match, Places, Show, ◌≡◌, ℕ, ◌+◌, suc, Bool, true, false, List, [], ◌∷◌, None, Option, Some, Ok, Err, refl, ap, sym, subst, ◌∙◌, arith, inl, inr, All, All-contains, All-head, All-tail, none-some, AllZip, concat, Contains, IfSome, if◌then◌else◌, Data, Laws, known, RefusedByName, cursor_in, Why, accepted_once, IsSingle, first_then, no_fault_once, no_ok_and_err, same_err}
 use Rattle.olr_detail.specs.MatchingDetail.{Detailed, IsDetailed, entries_of}
 use Rattle.olr_detail.specs.declared.candidate_detail.CandidateDetail.{CandidateDetail}
 use Rattle.olr_likely.specs.Json.{shown_object}
@@ -8,7 +8,7 @@ use Rattle.olr_likely.specs.Text.{shown_text}
 use Rattle.olr_likely.specs.declared.showing.ShownPlaces.{ShownPlaces}
 use Rattle.olr_why.specs.Reasons.{WhyValue}
 use Rattle.olr_app.specs.Answer.{IsReferenceIn}
-use Rattle.olr_app.specs.Listing.{IsDetailedListingIn, IsListed, IsListingAsAsked, IsListingIn}
+use Rattle.olr_app.specs.Listing.{IsListed, IsListingAsAsked, IsListingIn, IsListingTextWith}
 use Rattle.olr_app.specs.Matching.{IsMarkOf}
 use Rattle.olr_app.specs.Places.{ArePlaces, ArePlacesOn, IsPlacesIn}
 use Rattle.olr_app.specs.Stages.{OrTooMany}
@@ -50,8 +50,8 @@ listing_in Text road lists text other is again = is ∙ sym again
 listing_in Json road lists text other is again = same_line refl is again
 
 details_in : (format : Format) (road : RoadMap) (details : List (List CandidateDetail))
-    (text other : List ℕ) → IsDetailedListingIn format road details text
-    → IsDetailedListingIn format road details other → text ≡ other
+    (text other : List ℕ) → IsListingTextWith format road details text
+    → IsListingTextWith format road details other → text ≡ other
 details_in Text road details text other is again = is ∙ sym again
 details_in Json road details text other is again = same_line refl is again
 
@@ -116,7 +116,7 @@ module _ (laws : Laws) where
       let details = laws.listing_detail tolerances reference road.lines lists is.details
       again.details is.are again.are in
       details_in format road again.details text other
-      (subst (λ list. IsDetailedListingIn format road list text) details is.text_is) again.text_is
+      (subst (λ list. IsListingTextWith format road list text) details is.text_is) again.text_is
 
   listed_once : (detail : Bool) (format : Format) (tolerances : Tolerances)
       (reference : Reference) (road : RoadMap)
@@ -181,8 +181,8 @@ module _ (laws : Laws) where
   -- the same, where what speaks for each matching is shown with it
   one_in_detail : (format : Format) (road : RoadMap) (all : List Detailed) (page : PageValue)
       (mark other : Option Mark) (text again : List ℕ) → (page.more ≡ true → mark ≡ other)
-      → IsDetailedPageIn format road all (next_after page) mark text
-      → IsDetailedPageIn format road all (next_after page) other again → text ≡ again
+      → IsPageTextWith format road all (next_after page) mark text
+      → IsPageTextWith format road all (next_after page) other again → text ≡ again
   one_in_detail Text road all page mark other text again same is its = grind (arith, ends_alike)
   one_in_detail Json road all page mark other text again same is its =
       grind (arith, same_line, ends_alike)
@@ -218,7 +218,7 @@ module _ (laws : Laws) where
         let all = detailed_once layers.tolerances layers.reference road is.all its.all
         (is.are.entries_are ∙ sym its.are.entries_are) is.are.each its.are.each in
         one_in_detail format road its.all page mark other text again same
-        (subst (λ list. IsDetailedPageIn format road list (next_after page) mark text) all
+        (subst (λ list. IsPageTextWith format road list (next_after page) mark text) all
         is.text_is) its.text_is
 
   module _ (road : RoadMap) (layers : LayersValue) (sound : IsSoundMap road) where

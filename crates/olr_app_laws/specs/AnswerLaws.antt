@@ -1,9 +1,8 @@
 -- Laws on the answer of one of many requests on a map, beside the one that a run for it prints.
 use Rattle.std.specs.Prelude.{◌≡◌, ℕ, Bool, true, false, List, Option, None, Some, Ok, Err}
 use Rattle.std.specs.Borrow.{Bor}
-use Rattle.olr_app.specs.Common.{IsJsonLine, KeyValue, Mark, RoadMap}
-use Rattle.olr_detail.specs.Json.{page_object}
-use Rattle.olr_detail.specs.MatchingDetail.{Detailed}
+use Rattle.olr_app.specs.Common.{Mark, RoadMap}
+use Rattle.olr_detail.specs.Page.{IsSamePageInDetail}
 use Rattle.olr_map.specs.Files.{IsMapOf, known}
 use Rattle.olr_road.specs.RoadMap.{IsSoundMap}
 use Rattle.olr_report.specs.JsonLaws.{IsSamePage}
@@ -16,16 +15,7 @@ use Rattle.olr_request.specs.declared.request.Pages.TheVariants.{One}
 use Rattle.olr_request.specs.declared.request.Request.{Request}
 use Rattle.olr_request.specs.declared.request.Request.TheVariants.{Match}
 
--- Two texts are the JSON of one page in detail, with a mark of its own each, or none: they have the
--- same matchings, the same speaks for each of them, and they go on after the same one.
-pub record IsSamePageInDetail (road : RoadMap) (mark other : Option Mark) (text again : List ℕ)
-    : Type 0 where
-  pub all : List Detailed
-  pub next : Option KeyValue
-  pub text_is : IsJsonLine (page_object road all next mark) text
-  pub again_is : IsJsonLine (page_object road all next other) again
-
--- the same of a page in detail or not
+-- two texts are the JSON of one page, in detail or not, with a mark of its own each, or none
 abbrev pub IsSamePageAsAsked :
     Bool → RoadMap → Option Mark → Option Mark → List ℕ → List ℕ → Type 0
 IsSamePageAsAsked false = IsSamePage
