@@ -1,0 +1,11 @@
+mod Shares
+mod Arcs
+mod Lines
+mod Segments
+mod Ranges
+mod Between
+mod Deduped
+mod Gathered
+mod Once
+mod Neighbours
+mod Ends

@@ -1,0 +1,4 @@
+pub mod Position
+pub mod Shape
+pub mod Laws
+pub mod inner
