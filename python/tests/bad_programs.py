@@ -34,7 +34,8 @@ GOOD = {
 
 def bad_program(file: Path, program: Program, ways: Mapping[str, str]) -> Path:
     """Writes a program that fails at some references, each in one of these ways. It writes a line to `FILE.log` at each start
-    with records. Once `FILE.good` is there it is good at all records that follow, whenever it was started."""
+    with records. Once `FILE.good` is there it is good at all records that follow, whenever it was started.
+    """
     known = FAILING | HANGING | GOOD
     cases = "\n".join(f"    if way == {way!r}:\n        {known[way]}" for way in sorted(known))
     file.write_text(
