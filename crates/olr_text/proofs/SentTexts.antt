@@ -17,7 +17,7 @@ use Rattle.serde_json.specs.Written.{compact_text, has_float, items_have_float, 
 use Rattle.serde_json.proofs.FreeTexts.{text_of_value}
 use Rattle.serde_json.proofs.Numbers.{number_of-decimal, number_of-negative}
 use Rattle.serde_json.proofs.Texts.{print-outline}
-use Rattle.olr_text.specs.JsonValues.{IsJsonLine, ItemsNestWithin, MembersNestWithin, NestsWithin}
+use Rattle.olr_text.specs.JsonValues.{IsJsonText, ItemsNestWithin, MembersNestWithin, NestsWithin}
 use Rattle.olr_text.specs.Sent.{Sends, SendsItems, SendsMembers, with_members}
 
 -- ---- what is known of a value that was sent
@@ -142,12 +142,11 @@ reads value log known within =
     (ap (json.value max_depth) found ∙ parsed)
     ∙ known.read
 
-pub line_of : (value : Data) (log : Log) (text line : List ℕ) → Sends value (Some []) log
-    → IsTextOf log text → NestsWithin max_depth value → line ≡ text ++ codes "\n"
-    → IsJsonLine value line
-line_of value log text line sent is within ended =
+pub text_of : (value : Data) (log : Log) (text : List ℕ) → Sends value (Some []) log
+    → IsTextOf log text → NestsWithin max_depth value → IsJsonText value text
+text_of value log text sent is within =
     let known = is_read value (Some []) log sent in record {
-      line_is = cc (text_of_value value log text known.sent is known.no_float);
+      text_is = cc (text_of_value value log text known.sent is known.no_float);
       reads_as = reads value log known within;
     }
 

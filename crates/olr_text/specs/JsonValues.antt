@@ -2,6 +2,7 @@
 -- text of a value, and the value that a text of JSON (RFC 8259) reads as, are those that
 -- `serde_json` states.)
 use Rattle.std.specs.Prelude.{◌≡◌, ◌<◌, ◌-◌, ℕ, ℤ, List, ◌++◌, map, Option, None, Some, codes, ⊤}
+use Rattle.olr_base.specs.Coordinates.{Coordinates}
 use Rattle.serde_json.specs.Data.{Data, null, boolean, number, unsigned, string, array, object, Items, no_items, item, Members, no_members, member}
 use Rattle.serde_json.specs.Find.{of_integer}
 use Rattle.serde_json.specs.Read.{read}
@@ -29,6 +30,20 @@ integer value = number (of_integer value)
 abbrev pub array_of : {A : Type 0} → (A → Data) → List A → Data
 array_of value all = array (items_of (map value all))
 
+-- coordinates in microdegrees, as `[lon, lat]`
+abbrev pub coordinates_array : Coordinates → Data
+coordinates_array at = array (item (integer at.lon) (item (integer at.lat) no_items))
+
+-- a member in front of others, where there is a value
+abbrev pub maybe_member : List ℕ → Option Data → Members → Members
+maybe_member name None others = others
+maybe_member name (Some value) others = member name value others
+
+-- how many members this is
+abbrev pub count_if : {A : Type 0} → Option A → ℕ
+count_if None = 0
+count_if (Some value) = 1
+
 -- arrays and objects nest so deep at most
 abbrev mutual
   pub NestsWithin : ℕ → Data → Type 0
@@ -48,7 +63,12 @@ abbrev mutual
   MembersNestWithin most (member name value members) =
       NestsWithin most value × MembersNestWithin most members
 
--- The line of a value: its compact text, which reads as this value, and a line feed.
+-- The text of a value: its compact text, which reads as this value.
+pub record IsJsonText (value : Data) (text : List ℕ) : Type 0 where
+  pub text_is : text ≡ compact_text value
+  pub reads_as : read (compact_text value) ≡ Some value
+
+-- The line of a value: its text, and a line feed.
 pub record IsJsonLine (value : Data) (line : List ℕ) : Type 0 where
   pub line_is : line ≡ compact_text value ++ codes "\n"
   pub reads_as : read (compact_text value) ≡ Some value

@@ -10,5 +10,7 @@ mod to_json;
 mod to_text;
 
 pub use decimal::Decimal;
-pub use to_json::{Member, ToJson, ToMembers, send_counted, to_json_line};
+pub use to_json::{
+    MaybeMember, Member, ToJson, ToMembers, count_if, send_counted, to_json_line, to_json_text,
+};
 pub use to_text::{NumberOr, ToText, push_texts, text_if};

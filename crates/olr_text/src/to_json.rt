@@ -1,14 +1,16 @@
 //! What is written as JSON.
 
-ghost use Rattle.std.specs.Prelude.{◌≡◌, IfOk, OnOk, string_bytes};
+ghost use Rattle.std.specs.Prelude.{◌≡◌, ◌≤◌, IfOk, OnOk, option_map, string_bytes};
 ghost use Rattle.serde_json.specs.Data.{Data, Members, boolean, member, no_members, object, string};
 ghost use Rattle.serde_json.specs.Events.{members_len};
 ghost use Rattle.serde_json.specs.Read.{max_depth};
-ghost use Rattle.olr_text.specs.JsonValues.{IsJsonLine, NestsWithin, array_of, integer, or_null, whole};
+ghost use Rattle.olr_base.specs.Coordinates.{coordinates_of};
+ghost use Rattle.olr_text.specs.JsonValues.{IsJsonLine, IsJsonText, NestsWithin, array_of};
+ghost use Rattle.olr_text.specs.JsonValues.{coordinates_array, count_if, integer, maybe_member, or_null, whole};
 ghost use Rattle.olr_text.specs.Sent.{AreOrdered, Sends, SendsMembers};
 
 use arrayvec::{ArrayString, ArrayVec};
-use olr_base::NoMemory;
+use olr_base::{Degrees, NoMemory};
 use serde::{Described, Serialize, Serializer};
 use std::alloc::Global;
 
@@ -101,6 +103,18 @@ impl<On, const N: usize> ToJson<On> for ArrayString<N> {
 
     fn send<S: Serializer>(&self, _on: &On, out: &mut S) -> Result<(), S::Error> {
         out.str(self.as_str())
+    }
+}
+
+/// The pair of coordinates in microdegrees, longitude first.
+impl<On> ToJson<On> for Degrees {
+    ghost value = { λ _ at. coordinates_array (coordinates_of at) };
+
+    fn send<S: Serializer>(&self, on: &On, out: &mut S) -> Result<(), S::Error> {
+        out.begin_seq(Some(2))?;
+        self.lon.send(on, out)?;
+        self.lat.send(on, out)?;
+        out.end_seq()
     }
 }
 
@@ -197,6 +211,38 @@ impl<On, T: ToJson<On>, M: ToMembers<On>> ToMembers<On> for Member<'_, T, M> {
     }
 }
 
+/// A member that an object has where there is a value, and those behind it.
+#[derive(Clone, Copy)]
+pub struct MaybeMember<'a, T, M> {
+    pub name: &'a str,
+    pub value: &'a Option<T>,
+    pub others: M,
+}
+
+impl<On, T: ToJson<On>, M: ToMembers<On>> ToMembers<On> for MaybeMember<'_, T, M> {
+    ghost members = { λ on self. maybe_member self.name.now
+        (option_map (T.value on) self.value.now) (M.members on self.others) };
+
+    fn send_members<S: Serializer>(&self, on: &On, out: &mut S) -> Result<(), S::Error> {
+        if let Some(value) = self.value {
+            out.key(self.name)?;
+            value.send(on, out)?;
+        }
+        self.others.send_members(on, out)
+    }
+}
+
+/// How many members this is: one, or none.
+pub fn count_if<T>(value: &Option<T>) -> usize
+    ensures count { result ≡ count_if value.now }
+    ensures at_most { result ≤ 1 }
+{
+    match value {
+        Some(_) => 1,
+        None => 0,
+    }
+}
+
 /// Sends an object, of so many members. [`send_object!`] writes the call.
 ///
 /// # Errors
@@ -217,14 +263,15 @@ pub fn send_counted<On, M: ToMembers<On>, S: Serializer>(
     members.send_members(on, out)
 }
 
-/// Sends an object, as `send_object!(on, out, { "at": at, "line": line })`, with its members in the
-/// order of their names.
+/// Sends an object, as `send_object!(on, out, { "at": at, "line": line, "spot"?: spot })`, with its
+/// members in the order of their names. A member with `?` is there where its option, which a
+/// variable holds, has a value.
 #[macro_export]
 macro_rules! send_object {
-    ($on:expr, $out:expr, { $($name:literal: $value:expr),+ $(,)? }) => {
+    ($on:expr, $out:expr, { $($members:tt)+ }) => {
         $crate::send_counted(
-            $crate::count_of!($($name)+),
-            &$crate::members!($($name: $value,)+),
+            $crate::count_of!($($members)+),
+            &$crate::members!($($members)+),
             $on,
             $out,
         )
@@ -235,15 +282,25 @@ macro_rules! send_object {
 #[macro_export]
 macro_rules! count_of {
     () => { 0 };
-    ($first:literal $($others:literal)*) => { 1 + $crate::count_of!($($others)*) };
+    ($name:literal: $value:expr) => { 1 };
+    ($name:literal?: $value:expr) => { $crate::count_if(&$value) };
+    ($name:literal: $value:expr, $($others:tt)*) => { 1 + $crate::count_of!($($others)*) };
+    ($name:literal?: $value:expr, $($others:tt)*) => {
+        $crate::count_if(&$value) + $crate::count_of!($($others)*)
+    };
 }
 
 /// The members of these names and values.
 #[macro_export]
 macro_rules! members {
     () => { () };
+    ($name:literal: $value:expr) => { $crate::members!($name: $value,) };
+    ($name:literal?: $value:expr) => { $crate::members!($name?: $value,) };
     ($name:literal: $value:expr, $($others:tt)*) => {
         $crate::Member { name: $name, value: &$value, others: $crate::members!($($others)*) }
+    };
+    ($name:literal?: $value:expr, $($others:tt)*) => {
+        $crate::MaybeMember { name: $name, value: &$value, others: $crate::members!($($others)*) }
     };
 }
 
@@ -264,8 +321,27 @@ impl<On, T: ToJson<On>> Serialize for Shown<'_, On, T> {
     }
 }
 
-/// The line of JSON of a value: its compact text, with the members of each object in the order of
-/// their names, and a line feed.
+/// The JSON of a value: its compact text, with the members of each object in the order of their
+/// names.
+///
+/// # Errors
+///
+/// [`NoMemory`] where the allocator refused memory.
+pub fn to_json_text<On, T: ToJson<On>>(
+    alloc: Global,
+    on: &On,
+    value: &T,
+) -> Result<String, NoMemory>
+    requires { NestsWithin max_depth (T.value on.now value.now) }
+    ensures { IfOk result (λ text. IsJsonText (T.value on.now value.now) (string_bytes text)) }
+{
+    let Ok(text) = serde_json::to_string(alloc, &Shown { on, value }) else {
+        return Err(NoMemory);
+    };
+    Ok(text)
+}
+
+/// The line of JSON of a value: its text, and a line feed.
 ///
 /// # Errors
 ///
@@ -278,9 +354,7 @@ pub fn to_json_line<On, T: ToJson<On>>(
     requires { NestsWithin max_depth (T.value on.now value.now) }
     ensures { IfOk result (λ line. IsJsonLine (T.value on.now value.now) (string_bytes line)) }
 {
-    let Ok(mut line) = serde_json::to_string(alloc, &Shown { on, value }) else {
-        return Err(NoMemory);
-    };
+    let mut line = to_json_text(alloc, on, value)?;
     line.push('\n')?;
     Ok(line)
 }
