@@ -18,40 +18,40 @@ point_of numbered = numbered.1
 module _ (line : RoadLine) (from to : ℕ) where
   -- those among the first n points, with their numbers
   abbrev pub found : ℕ → List (ℕ × Coordinates)
-  found n = filter (is_between line from to) (take n (enumerate_from 0 line.points))
+  found n = filter (is_between from to line) (take n (enumerate_from 0 line.points))
 
   -- and without
   abbrev pub first_between : ℕ → List Coordinates
   first_between n = map point_of (found n)
 
   pub all_between : (n : ℕ) → length line.points ≤ n
-      → first_between n ≡ points_between line from to
+      → first_between n ≡ points_between from to line
   all_between n all =
       let count = length-enumerate_from 0 line.points in
-      ap (λ (l : List (ℕ × Coordinates)). map point_of (filter (is_between line from to) l))
+      ap (λ (l : List (ℕ × Coordinates)). map point_of (filter (is_between from to line) l))
       (take_all n (enumerate_from 0 line.points) (omega arith))
 
   found_more : (n : ℕ) (point : Coordinates) → n < length line.points
       → get_or line.points n point ≡ point → found (n + 1)
-      ≡ found n ++ cond (is_between line from to (n, point)) ((n, point) ∷ []) []
+      ≡ found n ++ cond (is_between from to line (n, point)) ((n, point) ∷ []) []
   found_more n point within is =
       let all = enumerate_from 0 line.points in
       let count = length-enumerate_from 0 line.points in
       let at : get_or all n (n, point) ≡ (n, point) =
       get_or-enumerate_from 0 line.points n (n, point) within ∙ (λ k. (zero-add n k, is k)) in
-      filter_more (is_between line from to) all n (n, point) (omega arith)
-      ∙ ap (λ (one : ℕ × Coordinates). found n ++ cond (is_between line from to one) (one ∷ []) [])
+      filter_more (is_between from to line) all n (n, point) (omega arith)
+      ∙ ap (λ (one : ℕ × Coordinates). found n ++ cond (is_between from to line one) (one ∷ []) [])
       at
 
   kept : (n : ℕ) (point : Coordinates) → n < length line.points
-      → get_or line.points n point ≡ point → is_between line from to (n, point) ≡ true
+      → get_or line.points n point ≡ point → is_between from to line (n, point) ≡ true
       → first_between (n + 1) ≡ first_between n ++ point ∷ []
   kept n point within is inside = ap (map point_of) (found_more n point within is
       ∙ ap (λ (b : Bool). found n ++ cond b ((n, point) ∷ []) []) inside)
       ∙ map_push point_of (found n) (n, point)
 
   left_out : (n : ℕ) (point : Coordinates) → n < length line.points
-      → get_or line.points n point ≡ point → is_between line from to (n, point) ≡ false
+      → get_or line.points n point ≡ point → is_between from to line (n, point) ≡ false
       → first_between (n + 1) ≡ first_between n
   left_out n point within is outside = ap (map point_of) (found_more n point within is
       ∙ ap (λ (b : Bool). found n ++ cond b ((n, point) ∷ []) []) outside ∙ append-nil (found n))
@@ -66,7 +66,7 @@ module _ (line : RoadLine) (from to : ℕ) where
 
     pub pushed : (n : ℕ) (point : Degrees) (old shape new : List Degrees)
         → n < length line.points → point ≡ get_or points n point
-        → is_between line from to (n, coordinates_of point) ≡ true
+        → is_between from to line (n, coordinates_of point) ≡ true
         → map coordinates_of shape ≡ map coordinates_of old ++ first_between n
         → new ≡ shape ++ point ∷ []
         → map coordinates_of new ≡ map coordinates_of old ++ first_between (n + 1)
@@ -80,7 +80,7 @@ module _ (line : RoadLine) (from to : ℕ) where
 
     pub passed : (n : ℕ) (point : Degrees) (old shape : List Degrees)
         → n < length line.points → point ≡ get_or points n point
-        → is_between line from to (n, coordinates_of point) ≡ false
+        → is_between from to line (n, coordinates_of point) ≡ false
         → map coordinates_of shape ≡ map coordinates_of old ++ first_between n
         → map coordinates_of shape ≡ map coordinates_of old ++ first_between (n + 1)
     passed n point old shape within is outside so_far =

@@ -2,10 +2,9 @@ mod Shares
 mod Arcs
 mod Lines
 mod Segments
+mod Found
 mod Ranges
 mod Between
 mod Deduped
-mod Gathered
-mod Once
 mod Neighbours
 mod Ends

@@ -1,39 +1,32 @@
--- Laws of spots and shapes. Each is the contract of a public function that does nothing at run
--- time.
-use Rattle.std.specs.Prelude.{◌≡◌, ◌↔◌, ℕ, ◌-◌, List, Some, length, slice_get}
+-- Laws of spots. Each is the contract of a public function that does nothing at run time.
+use Rattle.std.specs.Prelude.{◌≡◌, ◌↔◌, ℕ, ◌-◌, Some, length, slice_get}
 use Rattle.olr_base.specs.Coordinates.{Coordinates}
 use Rattle.olr_base.specs.Range.{IsLatitude}
 use Rattle.olr_metric.specs.Plane.{spot_of as plane_spot_of}
 use Rattle.olr_metric.specs.Spot.{distance}
 use Rattle.olr_metric.specs.declared.spot.Spot.{Spot}
+use Rattle.olr_road.specs.Place.{IsPlace}
 use Rattle.olr_road.specs.RoadMap.{IsSoundMap, RoadLine, RoadMap}
 use Rattle.olr_road.specs.declared.place.Place.{Place}
-use Rattle.olr_route.specs.declared.piece.Piece.{Piece}
-use Rattle.olr_shape.specs.Position.{IsSpotOf, IsSpotOn}
-use Rattle.olr_shape.specs.Shape.{IsShapeOf}
+use Rattle.olr_shape.specs.Position.{spot_on}
 
--- a place has one spot
-abbrev pub OneSpot : Type 0
-OneSpot = (road : RoadMap) (place : Place) (one other : Coordinates) → IsSpotOf road place one
-    → IsSpotOf road place other → one ≡ other
-
--- pieces have one shape
-abbrev pub OneShape : Type 0
-OneShape = (road : RoadMap) (pieces : List Piece) (one other : List Coordinates)
-    → IsShapeOf road pieces one → IsShapeOf road pieces other → one ≡ other
+-- each place on a map has a spot
+abbrev pub PlacesHaveSpots : Type 0
+PlacesHaveSpots = (road : RoadMap) (place : Place) → IsSoundMap road → IsPlace road place
+    → (spot : Coordinates) × (spot_on road place ≡ Some spot)
 
 -- the spot at the start of a line is its first point
 abbrev pub StartsAtFirstPoint : Type 0
-StartsAtFirstPoint = (road : RoadMap) (rank : ℕ) (line : RoadLine) (first : Coordinates)
-    → IsSoundMap road → slice_get road.lines rank ≡ Some line → slice_get line.points 0 ≡ Some first
-    → IsSpotOn road rank 0 first
+StartsAtFirstPoint = (road : RoadMap) (rank : ℕ) (line : RoadLine) → IsSoundMap road
+    → slice_get road.lines rank ≡ Some line
+    → spot_on road (record { line = rank; at = 0 }) ≡ slice_get line.points 0
 
 -- and that at its length is its last point
 abbrev pub EndsAtLastPoint : Type 0
-EndsAtLastPoint = (road : RoadMap) (rank : ℕ) (line : RoadLine) (last : Coordinates)
-    → IsSoundMap road → slice_get road.lines rank ≡ Some line
-    → slice_get line.points (length line.points - 1) ≡ Some last
-    → IsSpotOn road rank line.length last
+EndsAtLastPoint = (road : RoadMap) (rank : ℕ) (line : RoadLine) → IsSoundMap road
+    → slice_get road.lines rank ≡ Some line
+    → spot_on road (record { line = rank; at = line.length })
+    ≡ slice_get line.points (length line.points - 1)
 
 -- ---- what these rest on
 

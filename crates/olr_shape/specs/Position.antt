@@ -3,12 +3,11 @@
 -- origin at the line's first point, are in centimetres. A line's length is the map's, and needn't
 -- be that of its polyline: a position lies at the same share of both.
 -- (Spots are this project's choice: references have none.)
-use Rattle.std.specs.Prelude.{◌≡◌, ℕ, suc, ℤ, pos, ◌-◌, ◌*◌, ◌<◌, ◌≤◌, ◌+ℤ◌, ◌-ℤ◌, ◌*ℤ◌, List, [], ◌∷◌, Some, map, slice_get}
+use Rattle.std.specs.Prelude.{ℕ, suc, ℤ, pos, ◌-◌, ◌*◌, ◌+ℤ◌, ◌-ℤ◌, ◌*ℤ◌, Bool, List, [], ◌∷◌, Option, find, map, nat_le, option_and_then, option_map, slice_get}
 use Rattle.olr_base.specs.Coordinates.{Coordinates}
 use Rattle.olr_metric.specs.Floor.{floor}
 use Rattle.olr_metric.specs.Plane.{spot_of}
-use Rattle.olr_metric.specs.Polyline.{arc, arc_at, IsSegment}
-use Rattle.olr_metric.specs.Spot.{distance}
+use Rattle.olr_metric.specs.Polyline.{arc, arc_at}
 use Rattle.olr_metric.specs.declared.spot.Spot.{Spot}
 use Rattle.olr_road.specs.RoadMap.{RoadLine, RoadMap}
 use Rattle.olr_road.specs.declared.place.Place.{Place}
@@ -30,6 +29,21 @@ coordinates_between p q part whole = record {
   lat = share_between p.lat q.lat part whole;
 }
 
+-- ---- segments
+
+-- a segment of a line: its number, counted from 0, and the points at its ends
+pub record Segment : Type 0 where
+  pub number : ℕ
+  pub p : Coordinates
+  pub q : Coordinates
+
+-- the segments between points, numbered from i
+abbrev pub segments_from : ℕ → List Coordinates → List Segment
+segments_from i [] = []
+segments_from i (p ∷ []) = []
+segments_from i (p ∷ q ∷ rest) =
+    record { number = i; p = p; q = q } ∷ segments_from (suc i) (q ∷ rest)
+
 -- ---- positions
 
 -- the polyline of points, in the plane that has its origin at the first of them
@@ -48,34 +62,27 @@ module _ (points : List Coordinates) (length : ℕ) where
   abbrev pub arc_of_point : ℕ → ℕ
   arc_of_point i = arc_at (polyline_of points) i * length
 
-  -- segment i is the first one whose end has at least the arc of the position
-  pub record IsSegmentAt (at i : ℕ) : Type 0 where
-    pub reaches : arc_of_position at ≤ arc_of_point (suc i)
-    pub first : (j : ℕ) → j < i → arc_of_point (suc j) < arc_of_position at
+  module _ (at : ℕ) where
+    -- whether the end of a segment has at least the arc of the position
+    abbrev pub reaches : Segment → Bool
+    reaches segment = nat_le (arc_of_position at) (arc_of_point (suc segment.number))
 
-  -- The spot of a position: on that segment, from p to q, at the share of it that the arc beyond
-  -- its start is of its length.
-  pub record IsSpotAt (at : ℕ) (spot : Coordinates) : Type 0 where
-    pub i : ℕ
-    pub p : Coordinates
-    pub q : Coordinates
-    pub start : slice_get points i ≡ Some p
-    pub end : slice_get points (suc i) ≡ Some q
-    pub at_arc : IsSegmentAt at i
-    pub a : Spot
-    pub b : Spot
-    pub segment : IsSegment (polyline_of points) i a b
-    pub spot_is : spot
-        ≡ coordinates_between p q (arc_of_position at - arc_of_point i) (distance a b * length)
+    -- the spot of the position on a segment: at the share of it that the arc beyond its start is of
+    -- its own arc
+    abbrev pub spot_within : Segment → Coordinates
+    spot_within segment = coordinates_between segment.p segment.q
+        (arc_of_position at - arc_of_point segment.number)
+        (arc_of_point (suc segment.number) - arc_of_point segment.number)
+
+    -- the spot of the position: that on the first segment that reaches it; none where it is beyond
+    -- the length
+    abbrev pub spot_at : Option Coordinates
+    spot_at = option_map spot_within (find reaches (segments_from 0 points))
 
 -- ---- places
 
--- the spot of a position on the line of a rank
-pub record IsSpotOn (road : RoadMap) (line at : ℕ) (spot : Coordinates) : Type 0 where
-  pub on : RoadLine
-  pub line_is : slice_get road.lines line ≡ Some on
-  pub spot_is : IsSpotAt on.points on.length at spot
-
--- the spot of a place
-abbrev pub IsSpotOf : RoadMap → Place → Coordinates → Type 0
-IsSpotOf road place = IsSpotOn road place.line place.at
+-- the spot of a place; none where the map has no such line, or the place is beyond its end
+unfoldable pub spot_on : RoadMap → Place → Option Coordinates
+spot_on road place = option_and_then
+    (λ (line : RoadLine). spot_at line.points line.length place.at)
+    (slice_get road.lines place.line)

@@ -1,18 +1,18 @@
 -- The shape of pieces of lines: the spots that they go through, in microdegrees. Positions on lines
 -- are in decimetres.
 -- (Shapes are this project's choice: references have none.)
-use Rattle.std.specs.Prelude.{◌≡◌, ℕ, Bool, ◌&&◌, List, [], ◌∷◌, ◌++◌, Some, filter, map, slice_get, nat_lt}
+use Rattle.std.specs.Prelude.{ℕ, Bool, ◌&&◌, List, [], ◌∷◌, ◌++◌, filter, flat_map, map, nat_lt, option_to_list, slice_get}
 use Rattle.std.specs.Ordering.{int_eq}
-use Rattle.std.specs.List.{AllZip, dedup, enumerate_from, flat_map}
+use Rattle.std.specs.List.{dedup, enumerate_from}
 use Rattle.olr_base.specs.Coordinates.{Coordinates, coordinates_of}
 use Rattle.olr_base.specs.declared.degrees.Degrees.{Degrees}
 use Rattle.olr_road.specs.RoadMap.{RoadLine, RoadMap}
 use Rattle.olr_route.specs.declared.piece.Piece.{Piece}
-use Rattle.olr_shape.specs.Position.{IsSpotAt, arc_of_point, arc_of_position}
+use Rattle.olr_shape.specs.Position.{arc_of_point, arc_of_position, spot_at}
 
 -- ---- pieces
 
-module _ (line : RoadLine) (from to : ℕ) where
+module _ (from to : ℕ) (line : RoadLine) where
   -- whether a point of the line, given with its number, lies strictly between the positions
   abbrev pub is_between : ℕ × Coordinates → Bool
   is_between numbered =
@@ -26,19 +26,15 @@ module _ (line : RoadLine) (from to : ℕ) where
   points_between = map (λ (numbered : ℕ × Coordinates). numbered.1)
       (filter is_between (enumerate_from 0 line.points))
 
-  -- the spots of a piece: that where it begins, the points between, and that where it ends
-  pub record AreSpotsOnLine (spots : List Coordinates) : Type 0 where
-    pub first : Coordinates
-    pub last : Coordinates
-    pub first_is : IsSpotAt line.points line.length from first
-    pub last_is : IsSpotAt line.points line.length to last
-    pub spots_are : spots ≡ first ∷ points_between ++ last ∷ []
+  -- the spots from one position to the other: theirs, and the points between
+  abbrev pub spots_between : List Coordinates
+  spots_between = option_to_list (spot_at line.points line.length from) ++ points_between
+      ++ option_to_list (spot_at line.points line.length to)
 
--- the spots of a piece of a line of the map
-pub record AreSpotsOf (road : RoadMap) (piece : Piece) (spots : List Coordinates) : Type 0 where
-  pub line : RoadLine
-  pub line_is : slice_get road.lines piece.line ≡ Some line
-  pub spots_are : AreSpotsOnLine line piece.from piece.to spots
+-- the spots of a piece; none where the map has no such line
+abbrev pub spots_of_piece : RoadMap → Piece → List Coordinates
+spots_of_piece road piece = flat_map (spots_between piece.from piece.to)
+    (option_to_list (slice_get road.lines piece.line))
 
 -- ---- shapes
 
@@ -56,8 +52,5 @@ with_two_spots (a ∷ []) = a ∷ a ∷ []
 with_two_spots spots = spots
 
 -- the shape of pieces: the spots of all of them in order, equal neighbours once
-pub record IsShapeOf (road : RoadMap) (pieces : List Piece)
-    (shape : List Coordinates) : Type 0 where
-  pub each : List (List Coordinates)
-  pub are : AllZip (AreSpotsOf road) pieces each
-  pub shape_is : shape ≡ with_two_spots (dedup is_same (flat_map (λ spots. spots) each))
+unfoldable pub shape_on : RoadMap → List Piece → List Coordinates
+shape_on road pieces = with_two_spots (dedup is_same (flat_map (spots_of_piece road) pieces))

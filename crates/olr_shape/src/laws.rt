@@ -1,6 +1,6 @@
-//! Laws of spots and shapes. Each is the contract of a function that does nothing at run time.
+//! Laws of spots. Each is the contract of a function that does nothing at run time.
 
-ghost use Rattle.olr_shape.specs.Laws.{EndsAtLastPoint, OneShape, OneSpot, PlaneLaws, StartsAtFirstPoint};
+ghost use Rattle.olr_shape.specs.Laws.{EndsAtLastPoint, PlacesHaveSpots, PlaneLaws, StartsAtFirstPoint};
 
 use olr_metric::{distances, one_place_a_spot};
 
@@ -12,15 +12,12 @@ fn laws_of_the_plane()
     distances();
 }
 
-/// A place has one spot.
-pub fn one_spot_a_place()
-    ensures { OneSpot }
-{}
-
-/// Pieces have one shape.
-pub fn one_shape()
-    ensures { OneShape }
-{}
+/// Each place on a map has a spot.
+pub fn places_have_spots()
+    ensures { PlacesHaveSpots }
+{
+    laws_of_the_plane();
+}
 
 /// The spot at position 0 of a line is its first point, and that at its length is its last point.
 pub fn spots_of_ends()

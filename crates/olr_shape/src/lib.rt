@@ -7,8 +7,8 @@
 //! - [`position`]: the spot of a position on a line.
 //! - [`shape`]: the spots of pieces, joined.
 //!
-//! Beside them, [`laws`] states that these are one each, and what the spots at the ends of a line
-//! are.
+//! Beside them, [`laws`] states that each place on a map has a spot, and what the spots at the ends
+//! of a line are.
 #![tactic(auto)]
 
 mod laws;
@@ -17,6 +17,6 @@ mod position;
 mod shape;
 mod share;
 
-pub use laws::{one_shape, one_spot_a_place, spots_of_ends};
-pub use position::spot_of;
-pub use shape::shape_of;
+pub use laws::{places_have_spots, spots_of_ends};
+pub use position::spot_on;
+pub use shape::shape_on;

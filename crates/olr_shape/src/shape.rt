@@ -1,10 +1,9 @@
 //! The shapes of pieces of routes.
 
-ghost use Rattle.std.specs.Prelude.{◌≡◌, ◌++◌, ◌&&◌, All, IfOk, OnOk, nat_lt};
+ghost use Rattle.std.specs.Prelude.{◌≡◌, ◌++◌, ◌&&◌, IfOk, OnOk, flat_map, nat_lt, option_map, option_to_list};
 ghost use Rattle.std.specs.List.{dedup};
-ghost use Rattle.olr_route.specs.Route.{IsPieceOn};
-ghost use Rattle.olr_shape.specs.Shape.{IsShapeOf, coordinates_of_all, is_same, points_between, with_two_spots};
-ghost use Rattle.olr_shape.specs.inner.Spots.{AddsSpots, AreSpotsOfAll};
+ghost use Rattle.olr_base.specs.Coordinates.{coordinates_of};
+ghost use Rattle.olr_shape.specs.Shape.{coordinates_of_all, is_same, points_between, shape_on, spots_between, spots_of_piece, with_two_spots};
 
 use crate::measured_line::{MeasuredLine, measured};
 use crate::position::spot_at;
@@ -28,7 +27,7 @@ fn push_between(
     to: u32,
 ) -> Result<(), NoMemory>
     ensures { OnOk result (coordinates_of_all shape.new.items
-        ≡ coordinates_of_all shape.old.items ++ points_between line.now from to) }
+        ≡ coordinates_of_all shape.old.items ++ points_between from to line.now) }
 {
     let after = line.arc_of_position(from);
     let before = line.arc_of_position(to);
@@ -41,22 +40,48 @@ fn push_between(
     Ok(())
 }
 
+/// Appends a spot, where there is one.
+fn push_spot(shape: &mut Vec<Degrees>, spot: Option<Degrees>) -> Result<(), NoMemory>
+    ensures { OnOk result (coordinates_of_all shape.new.items
+        ≡ coordinates_of_all shape.old.items ++ option_to_list (option_map coordinates_of spot)) }
+{
+    if let Some(spot) = spot {
+        shape.push(spot)?;
+    }
+    Ok(())
+}
+
+/// Appends the spots from one position of a line to another, in decimetres.
+fn push_spots(
+    shape: &mut Vec<Degrees>,
+    line: &MeasuredLine<'_>,
+    from: u32,
+    to: u32,
+) -> Result<(), NoMemory>
+    ensures { OnOk result (coordinates_of_all shape.new.items
+        ≡ coordinates_of_all shape.old.items ++ spots_between from to line.now) }
+{
+    push_spot(shape, spot_at(line, from))?;
+    push_between(shape, line, from, to)?;
+    push_spot(shape, spot_at(line, to))?;
+    Ok(())
+}
+
 /// Appends the spots of a piece.
 fn push_piece(shape: &mut Vec<Degrees>, map: &Map, piece: Piece) -> Result<(), NoMemory>
-    requires { IsPieceOn map.now piece }
-    ensures { OnOk result (AddsSpots map.now piece shape.old.items shape.new.items) }
+    ensures { OnOk result (coordinates_of_all shape.new.items
+        ≡ coordinates_of_all shape.old.items ++ spots_of_piece map.now piece) }
 {
-    let line = measured(map, piece.line);
-    shape.push(spot_at(&line, piece.from))?;
-    push_between(shape, &line, piece.from, piece.to)?;
-    shape.push(spot_at(&line, piece.to))?;
+    if piece.line < map.count() {
+        push_spots(shape, &measured(map, piece.line), piece.from, piece.to)?;
+    }
     Ok(())
 }
 
 /// The spots of pieces, one after the other.
 fn spots_of(alloc: Global, map: &Map, pieces: &[Piece]) -> Result<Vec<Degrees>, NoMemory>
-    requires { All (IsPieceOn map.now) pieces.now }
-    ensures { IfOk result (λ spots. AreSpotsOfAll map.now pieces.now spots.items) }
+    ensures { IfOk result (λ spots.
+        coordinates_of_all spots.items ≡ flat_map (spots_of_piece map.now) pieces.now) }
 {
     let mut spots = Vec::new(alloc);
     for &piece in pieces {
@@ -86,15 +111,15 @@ fn repeat_single(spots: &mut Vec<Degrees>) -> Result<(), NoMemory>
 }
 
 /// The shape of pieces of lines: for each piece the spot where it begins, the points of the line
-/// between, and the spot where it ends; equal neighbours once, and a single spot twice.
+/// between, and the spot where it ends; equal neighbours once, and a single spot twice. A piece on
+/// no line of the map adds nothing, and so does an end of a piece that is beyond its line's end.
 ///
 /// # Errors
 ///
 /// [`NoMemory`] where the allocator refused memory.
-pub fn shape_of(alloc: Global, map: &Map, pieces: &[Piece]) -> Result<Vec<Degrees>, NoMemory>
-    requires { All (IsPieceOn map.now) pieces.now }
+pub fn shape_on(alloc: Global, map: &Map, pieces: &[Piece]) -> Result<Vec<Degrees>, NoMemory>
     ensures { IfOk result
-        (λ shape. IsShapeOf map.now pieces.now (coordinates_of_all shape.items)) }
+        (λ shape. coordinates_of_all shape.items ≡ shape_on map.now pieces.now) }
 {
     let mut shape = spots_of(alloc, map, pieces)?;
     leave_once(&mut shape);

@@ -23,12 +23,12 @@ loop-number-preserved c =
     let arc = c.arc_of_point.ensures.arc in
     elim c.if-lies_between.branch [
       | then-lies_between+in_ok-push w ↦
-          let inside : is_between line from to (n, coordinates_of point) ≡ true = cc in
+          let inside : is_between from to line (n, coordinates_of point) ≡ true = cc in
           rw w.shape-is (pushed line from to points same n point
           c.args.shape.now.items _ _ within c.index-points-number.is inside c.loop-number.invariant
           w.in_ok-push.ensures.items)
       | else-lies_between w ↦
-          let outside : is_between line from to (n, coordinates_of point) ≡ false = cc in
+          let outside : is_between from to line (n, coordinates_of point) ≡ false = cc in
           rw w.shape-is (passed line from to points same n point
           c.args.shape.now.items _ within c.index-points-number.is outside c.loop-number.invariant)
     ]
