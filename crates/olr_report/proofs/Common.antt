@@ -14,8 +14,11 @@ pub use Rattle.olr_matching.specs.declared.matched.Leg.{Leg}
 pub use Rattle.olr_matching.specs.declared.matched.Matched.{Matched}
 pub use Rattle.olr_report.specs.Entries.{AreEntriesOf, CanBeShown, Entry, HasLine, HasLocation, HasMatched, HasPart, HasPieces, IsEntryAt, IsEntryOf, IsOnMap, entry_of, keys_of}
 pub use Rattle.olr_report.specs.Joined.{AreApart, IsForwards, IsJoined, IsJoinedRoute, IsNotEmpty, IsRouteOver, Touches}
-pub use Rattle.olr_report.specs.Json.{candidate_object, entry_object, leg_object, located_members, matching_object, next_value, page_object, part_value, pieces_array}
+pub use Rattle.olr_report.specs.Json.{candidate_object, drawn_object, entry_object, leg_object, located_members, matching_object, next_value, page_object, part_value, pieces_array}
 pub use Rattle.olr_report.specs.Location.{AreLegsOf, IsLocation, IsMeasured, IsPartBetween, LocatedLine, LocatedPoint, LocatedValue, earliest_offset, first_length, last_length, latest_offset, located_value, pieces_if_any}
+pub use Rattle.olr_report.specs.RoutePart.{part_drawn}
+pub use Rattle.olr_report.specs.Shapes.{shape_if_asked, spot_if_asked, spots_if_asked}
+pub use Rattle.olr_report.specs.ShownMap.{MapShown, map_shown, without_shapes}
 pub use Rattle.olr_report.specs.Steps.{Step, end_of, place_at, start_of, steps_in, steps_of, steps_of_legs}
 pub use Rattle.olr_report.specs.Text.{entries_rows}
 pub use Rattle.olr_report.specs.TextRows.{end_row, entry_rows}
@@ -26,6 +29,6 @@ pub use Rattle.olr_route.specs.Route.{IsPieceOn}
 pub use Rattle.olr_route.specs.Walk.{piece_length}
 pub use Rattle.olr_route.specs.declared.piece.Piece.{Piece}
 pub use Rattle.olr_text.proofs.Nesting.{items_nest, option_nests}
-pub use Rattle.olr_text.specs.JsonValues.{NestsWithin, array_of, or_null, whole}
+pub use Rattle.olr_text.specs.JsonValues.{NestsWithin, array_of, maybe_member, or_null, whole}
 pub use Rattle.serde_json.specs.Data.{Data, Members, member, no_members, object, string}
 pub use Rattle.std.specs.List.{range_with_len}

@@ -13,3 +13,4 @@ mod PageEntries
 mod OneEntry
 pub mod JsonShape
 pub mod ShownPage
+pub mod ShapeValues

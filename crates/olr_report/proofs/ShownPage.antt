@@ -1,9 +1,11 @@
 -- The values that are written of a matching and of a page are their objects.
 use Rattle.arrayvec.specs.ArrayString.{ArrayString}
 use Rattle.olr_keys.specs.Cursor.{cursor_text}
-use Rattle.olr_report.proofs.Common.{entry_of, KeyValue, Leg, Located, Mark, Matched, Piece, RoadMap, ◌≡◌, ℕ, Bor, List, [], ◌∷◌, map, Option, None, Some, option_map, codes, refl, ap, ◌∙◌, Vec, Data, Members, member, no_members, object, string, array_of, or_null, whole, candidate_object, entry_object, leg_object, located_members, matching_object, next_value, page_object, part_value, pieces_array, located_value, pieces_if_any}
+use Rattle.olr_report.proofs.Common.{entry_of, first_length, maybe_member, part_drawn, shape_if_asked, spots_if_asked, KeyValue, Leg, Located, MapShown, Mark, Matched, Piece, RoadMap, ◌≡◌, ℕ, Bor, List, map, Option, None, Some, option_map, codes, refl, ap, ◌∙◌, Vec, Data, Members, member, no_members, object, string, array_of, or_null, whole, candidate_object, entry_object, leg_object, located_members, matching_object, next_value, page_object, part_value, pieces_array, located_value, pieces_if_any}
+use Rattle.olr_report.proofs.ShapeValues.{mapped}
 use Rattle.olr_report.specs.declared.locating.Located.TheVariants.{Line, Point}
 use Rattle.olr_report.specs.declared.page_entries.Entry.{Entry}
+use Rattle.olr_report.specs.declared.route_part.RoutePart.{RoutePart}
 
 -- what is written of a part that may be there
 abbrev written_part : RoadMap → Option (Vec Piece) → Data
@@ -31,25 +33,28 @@ same_members road (Line outer inner) legs others =
 same_members road (Point earliest latest) legs others = refl
 
 -- the object that is written of a matching is that of its key and its parts
-pub same_matching : (road : RoadMap) (route : List Piece) (text : List ℕ) (written key : KeyValue)
-    (parts matched : Matched) (found located : Located) → text ≡ cursor_text key None
+pub same_matching : (on : MapShown) (part : Option RoutePart) (route : List Piece) (text : List ℕ)
+    (word shape spot : Option Data) (length : ℕ) (written key : KeyValue) (parts matched : Matched)
+    (found located : Located) → text ≡ cursor_text key None → word ≡ part_drawn part
+    → length ≡ first_length parts.legs
+    → shape ≡ shape_if_asked on route (located_value located)
+    → spot ≡ spots_if_asked on length route (located_value located)
     → written ≡ key → parts ≡ matched → located ≡ found
     → object (
     member (codes "cursor") (string text) (
-    written_members road found parts.legs (
-    member (codes "points") (array_of (candidate_object road) parts.candidates) (
-    member (codes "route") (pieces_array road route) (
-    member (codes "total") (whole written.total) no_members)))))
-    ≡ matching_object road key matched route (located_value located)
-same_matching road route text written key parts matched found located text_is key_is parts_are is =
-    rw (text_is, key_is, parts_are, is) (ap (λ members.
+    written_members on.road found parts.legs (
+    maybe_member (codes "part") word (
+    member (codes "points") (array_of (candidate_object on) parts.candidates) (
+    member (codes "route") (pieces_array on.road route) (
+    maybe_member (codes "shape") shape (
+    maybe_member (codes "spot") spot (
+    member (codes "total") (whole written.total) no_members))))))))
+    ≡ matching_object on part key matched route (located_value located)
+same_matching on part route text word shape spot length written key parts matched found located
+    text_is word_is length_is shape_is spot_is key_is parts_are is =
+    rw (text_is, word_is, shape_is, spot_is, length_is, key_is, parts_are, is) (ap (λ members.
     object (member (codes "cursor") (string (cursor_text key None)) members))
-    (same_members road found matched.legs _))
-
-mapped : {A B C : Type 0} (f : B → C) (g : A → B) (all : List A)
-    → map (λ a. f (g a)) all ≡ map f (map g all)
-mapped f g [] = refl
-mapped f g (a ∷ all) = cc (mapped f g all)
+    (same_members on.road found matched.legs _))
 
 -- the value of a text that may be there is that of the cursor, where the texts are the same
 pub same_next : (next : Option ArrayString) (found : Option (Bor KeyValue))
@@ -63,13 +68,13 @@ same_next (Some next) (Some key) last mark same is =
     ap string text ∙ ap (λ l. next_value l mark) is
 same_next _ _ last mark same is = absurd cc
 
-module _ (road : RoadMap) (list : List Entry) (next : Option ArrayString)
+module _ (on : MapShown) (list : List Entry) (next : Option ArrayString)
     (found : Option (Bor KeyValue)) (last : Option KeyValue)
     (mark : Option Mark) (same : option_map (λ text. text.bytes) next
     ≡ option_map (λ (key : Bor KeyValue). cursor_text key.now mark) found)
     (is : option_map (λ (key : Bor KeyValue). key.now) found ≡ last) where
   pub same_page : object (
-      member (codes "matchings") (array_of (λ entry. entry_object road (entry_of entry)) list) (
+      member (codes "matchings") (array_of (λ entry. entry_object on (entry_of entry)) list) (
       member (codes "next") (or_null (λ text. string text.bytes) next) no_members))
-      ≡ page_object road (map entry_of list) last mark
-  same_page = cc (mapped (entry_object road) entry_of list, same_next next found last mark same is)
+      ≡ page_object on (map entry_of list) last mark
+  same_page = cc (mapped (entry_object on) entry_of list, same_next next found last mark same is)

@@ -7,5 +7,8 @@ pub mod Entries
 pub mod EntryLaws
 pub mod TextRows
 pub mod Text
+pub mod RoutePart
+pub mod ShownMap
+pub mod Shapes
 pub mod Json
 pub mod JsonLaws

@@ -13,6 +13,7 @@
 //! - [`locating`]: the location of a reference on the route of its legs; [`part_laws`]: what holds
 //!   of routes and parts.
 //! - [`page_entries`]: the matchings of a page as they are shown, whatever the format.
+//! - [`route_part`]: the names of its parts.
 //! - [`text_rows`]: the rows of a matching, and the last row of a page.
 //! - [`text`]: the text of a page.
 //! - [`matching_json`]: the JSON of a matching.
@@ -31,11 +32,16 @@ mod json_laws;
 mod laws;
 mod locating;
 mod matching_json;
+mod middle;
 mod offsets;
+mod on_map;
 mod page_entries;
 mod page_json;
 mod part_laws;
 mod pieces;
+mod route_part;
+mod shape_json;
+mod shown_map;
 mod text;
 mod text_rows;
 mod trimming;
@@ -46,10 +52,15 @@ pub use joining::join;
 pub use json_laws::json_reads_as_page;
 pub use laws::one_route_of_steps;
 pub use locating::{Located, location};
-pub use matching_json::{OnMap, ShownMatching};
+pub use matching_json::{ShownMatching, first_length};
+pub use middle::middle_of;
+pub use on_map::OnMap;
 pub use page_entries::{Entry, entries, entry_of};
-pub use page_json::{json_page, next_cursor};
+pub use page_json::{json_page, json_page_shown, next_cursor};
 pub use part_laws::inner_lies_within_outer;
+pub use route_part::{RoutePart, word_drawn};
+pub use shape_json::{MatchingShape, PointSpots};
+pub use shown_map::ShownMap;
 pub use text::{next_after, text_page};
 pub use text_rows::{push_end, push_location, push_part, push_pieces, push_place, shown_id};
 pub use trimming::trim;

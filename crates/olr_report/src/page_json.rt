@@ -1,17 +1,17 @@
 //! The JSON of a page of matchings.
 
-ghost use Rattle.std.specs.Prelude.{◌≡◌, codes, length, option_map, string_bytes, All, IfOk, OnOk};
-ghost use Rattle.serde_json.specs.Data.{Data, member, no_members, object, string};
+ghost use Rattle.std.specs.Prelude.{◌≡◌, codes, length, option_map, string_bytes, All, IfOk};
+ghost use Rattle.serde_json.specs.Data.{member, no_members, object, string};
 ghost use Rattle.olr_text.specs.JsonValues.{array_of, or_null};
 ghost use Rattle.olr_binary.specs.Reference.{IsReference};
 ghost use Rattle.olr_keys.specs.Cursor.{cursor_text};
 ghost use Rattle.olr_keys.specs.Page.{page_of};
 ghost use Rattle.olr_report.specs.Entries.{entry_of, CanBeShown};
 ghost use Rattle.olr_report.specs.Json.{entry_object, IsPageJson};
-ghost use Rattle.olr_text.specs.Sent.{Sends};
+ghost use Rattle.olr_report.specs.ShownMap.{map_shown, without_shapes};
 
-use crate::matching_json::OnMap;
 use crate::page_entries::{Entry, entries};
+use crate::shown_map::ShownMap;
 use crate::text::next_after;
 use arrayvec::ArrayString;
 use olr_base::NoMemory;
@@ -31,13 +31,13 @@ struct PageEntries<'a> {
 }
 
 /// The object of a page.
-impl ToJson<OnMap<'_>> for PageEntries<'_> {
+impl ToJson<ShownMap<'_>> for PageEntries<'_> {
     ghost value = { λ on page. object (
         member (codes "matchings")
-        (array_of (λ entry. entry_object on.map.now (entry_of entry)) page.matchings.items) (
+        (array_of (λ entry. entry_object (map_shown on) (entry_of entry)) page.matchings.items) (
         member (codes "next") (or_null (λ next. string next.bytes) page.next) no_members)) };
 
-    fn send<S: Serializer>(&self, on: &OnMap<'_>, out: &mut S) -> Result<(), S::Error> {
+    fn send<S: Serializer>(&self, on: &ShownMap<'_>, out: &mut S) -> Result<(), S::Error> {
         send_object!(on, out, { "matchings": self.matchings, "next": self.next })
     }
 }
@@ -53,6 +53,32 @@ pub fn next_cursor(last: Option<&Key>, mark: Option<&Mark>) -> Option<ArrayStrin
         return None;
     };
     Some(Cursor::write(last, mark))
+}
+
+/// The JSON of a page on a map, as [`json_page`] makes it, and with shapes where these are asked
+/// for: a matching then has its `shape`, and each of its points its `spot`.
+///
+/// # Errors
+///
+/// [`NoMemory`] where the allocator refused memory.
+pub fn json_page_shown(
+    on: &ShownMap<'_>,
+    reference: &Reference,
+    page: &Page,
+    matched: &[Matched],
+    mark: Option<&Mark>,
+) -> Result<String, NoMemory>
+    requires reference { IsReference reference.now }
+    requires one_each { length matched.now ≡ length page.now.keys.items }
+    requires shown { All (CanBeShown on.now.map.now reference.now) matched.now }
+    ensures { let page = page_of page.now in let mark = option_map (λ mark. mark.now) mark.entry in
+        IfOk result (λ text.
+        IsPageJson (map_shown on.now) reference.now page matched.now mark (string_bytes text)) }
+{
+    let matchings = entries(on.alloc, reference, page, matched)?;
+    let next = next_cursor(next_after(page), mark);
+    let line = to_json_line(on.alloc, on, &PageEntries { matchings, next })?;
+    Ok(line)
 }
 
 /// The JSON of a page: one compact object and a line feed, with the members of each object in the
@@ -86,10 +112,13 @@ pub fn json_page(
     requires shown { All (CanBeShown map.now reference.now) matched.now }
     ensures { let page = page_of page.now in let mark = option_map (λ mark. mark.now) mark.entry in
         IfOk result (λ text.
-        IsPageJson map.now reference.now page matched.now mark (string_bytes text)) }
+        IsPageJson (without_shapes map.now) reference.now page matched.now mark
+        (string_bytes text)) }
 {
-    let matchings = entries(alloc, reference, page, matched)?;
-    let next = next_cursor(next_after(page), mark);
-    let line = to_json_line(alloc, &OnMap { map }, &PageEntries { matchings, next })?;
-    Ok(line)
+    let on = ShownMap {
+        alloc,
+        map,
+        shapes_of: None,
+    };
+    json_page_shown(&on, reference, page, matched, mark)
 }

@@ -6,7 +6,7 @@ ghost use Rattle.olr_keys.specs.Page.{page_of};
 ghost use Rattle.olr_report.specs.Entries.{CanBeShown};
 ghost use Rattle.olr_report.specs.Text.{IsPageText, next_after};
 
-use crate::matching_json::OnMap;
+use crate::on_map::OnMap;
 use crate::page_entries::entries;
 use crate::text_rows::push_end;
 use olr_base::NoMemory;

@@ -9,7 +9,7 @@ ghost use Rattle.olr_report.specs.TextRows.{point_row, leg_row, piece_text, piec
 ghost use Rattle.olr_report.specs.TextRows.{place_row, location_rows, entry_rows, end_row};
 
 use crate::locating::Located;
-use crate::matching_json::OnMap;
+use crate::on_map::OnMap;
 use crate::page_entries::Entry;
 use olr_base::NoMemory;
 use olr_candidates::Candidate;
