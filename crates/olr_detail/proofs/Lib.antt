@@ -5,3 +5,4 @@ pub mod Written
 pub mod Pages
 mod OneNear
 mod OneDetail
+mod Features

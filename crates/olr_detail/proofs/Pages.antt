@@ -1,5 +1,5 @@
 -- The values and the rows that are written of a page are those of its matchings.
-use Rattle.olr_report.proofs.Common.{AreEntriesOf, Entry, IsEntryOf, Matched, Reference, ◌≡◌, ◌+◌, ◌++◌, ◌<◌, ◌≤◌, ◌∙◌, ℕ, List, [], ◌∷◌, Option, length, map, take, get_or, option_map, refl, sym, ap, All-push, map_push, take_all, take_more}
+use Rattle.olr_report.proofs.Common.{AreEntriesOf, Entry, IsEntryOf, Matched, Reference, ◌≡◌, ◌+◌, ◌++◌, ◌<◌, ◌≤◌, ◌∙◌, ℕ, List, [], ◌∷◌, None, Option, length, map, take, get_or, option_map, refl, sym, ap, All-push, map_push, take_all, take_more}
 use Rattle.std.specs.Borrow.{Bor}
 use Rattle.std.specs.Prelude.{codes}
 use Rattle.arrayvec.specs.ArrayString.{ArrayString}
@@ -16,25 +16,27 @@ use Rattle.olr_detail.specs.MatchingDetail.{Detailed}
 use Rattle.olr_detail.specs.Page.{detailed_of}
 use Rattle.olr_detail.specs.Text.{detailed_rows}
 use Rattle.olr_detail.specs.declared.page.DetailedEntry.{DetailedEntry}
-use Rattle.olr_detail.proofs.Written.{mapped, matching_nests}
+use Rattle.olr_report.proofs.ShapeValues.{mapped}
+use Rattle.olr_report.specs.ShownMap.{MapShown}
+use Rattle.olr_detail.proofs.Written.{matching_nests}
 
-pub detailed_nests : (road : RoadMap) (most : ℕ) → 4 ≤ most → (one : Detailed)
-    → NestsWithin most (detailed_object road one)
-detailed_nests road most enough one =
-    matching_nests road most enough one.entry.key one.entry.route one.entry.located one.detail
+pub detailed_nests : (on : MapShown) (most : ℕ) → 4 ≤ most → (one : Detailed)
+    → NestsWithin most (detailed_object on one)
+detailed_nests on most enough one = matching_nests on most enough None one.entry.key
+    one.entry.matched one.entry.route one.entry.located one.detail
 
-module _ (road : RoadMap) (list : List DetailedEntry) (next : Option ArrayString)
+module _ (on : MapShown) (list : List DetailedEntry) (next : Option ArrayString)
     (found : Option (Bor KeyValue)) (last : Option KeyValue)
     (mark : Option Mark) (same : option_map (λ text. text.bytes) next
     ≡ option_map (λ (key : Bor KeyValue). cursor_text key.now mark) found)
     (is : option_map (λ (key : Bor KeyValue). key.now) found ≡ last) where
   pub same_page : object (
       member (codes "matchings")
-      (array_of (λ one. detailed_object road (detailed_of one)) list) (
+      (array_of (λ one. detailed_object on (detailed_of one)) list) (
       member (codes "next") (or_null (λ text. string text.bytes) next) no_members))
-      ≡ page_object road (map detailed_of list) last mark
+      ≡ page_object on (map detailed_of list) last mark
   same_page =
-      cc (mapped (detailed_object road) detailed_of list, same_next next found last mark same is)
+      cc (mapped (detailed_object on) detailed_of list, same_next next found last mark same is)
 
 -- ---- the matchings of the first keys, one more after the other
 

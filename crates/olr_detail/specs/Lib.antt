@@ -9,3 +9,6 @@ pub mod Text
 pub mod Page
 pub mod Listing
 pub mod Laws
+pub mod Drawing
+pub mod inner
+pub mod GeoJson

@@ -1,5 +1,5 @@
 -- A page of matchings with what speaks for each of them, as text and as JSON.
-use Rattle.std.specs.Prelude.{◌≡◌, ℕ, List, Option, All}
+use Rattle.std.specs.Prelude.{◌≡◌, ℕ, Bool, List, Option, All}
 use Rattle.olr_binary.specs.declared.reference.Reference.{Reference}
 use Rattle.olr_keys.specs.Page.{PageValue}
 use Rattle.olr_keys.specs.declared.mark.Mark.{Mark}
@@ -8,6 +8,7 @@ use Rattle.olr_candidates.specs.declared.tolerances.Tolerances.{Tolerances}
 use Rattle.olr_matching.specs.declared.matched.Matched.{Matched}
 use Rattle.olr_keys.specs.Key.{KeyValue}
 use Rattle.olr_report.specs.Entries.{AreEntriesOf, CanBeShown, IsEntryOf, entry_of}
+use Rattle.olr_report.specs.ShownMap.{MapShown, shown_as}
 use Rattle.olr_report.specs.Text.{next_after}
 use Rattle.olr_text.specs.JsonValues.{IsJsonLine}
 use Rattle.olr_detail.specs.Json.{page_object}
@@ -40,12 +41,13 @@ module _ (tolerances : Tolerances) (reference : Reference) (road : RoadMap) wher
     pub are : AreDetailed page matched all
     pub text_is : text ≡ page_text road all (next_after page) mark
 
-  -- and its JSON
-  pub record IsPageJson (page : PageValue) (matched : List Matched) (mark : Option Mark)
-      (text : List ℕ) : Type 0 where
+  -- and its JSON, with shapes or without
+  pub record IsPageJson (shapes : Bool) (page : PageValue) (matched : List Matched)
+      (mark : Option Mark) (text : List ℕ) : Type 0 where
     pub all : List Detailed
     pub are : AreDetailed page matched all
-    pub json : IsJsonLine (page_object road all (next_after page) mark) text
+    pub json : IsJsonLine (page_object (shown_as shapes road reference) all (next_after page) mark)
+        text
 
   -- the parts of a matching that can be shown, with what speaks for it
   pub record CanBeShownInDetail (matched : Matched) : Type 0 where
@@ -53,10 +55,10 @@ module _ (tolerances : Tolerances) (reference : Reference) (road : RoadMap) wher
     pub detailed : CanBeDetailed tolerances reference road matched
 
 -- Two texts are the JSON of one page in detail, with a mark of its own each, or none: they have the
--- same matchings, the same speaks for each of them, and they go on behind the same one.
-pub record IsSamePageInDetail (road : RoadMap) (mark other : Option Mark) (text again : List ℕ)
+-- same matchings with the same details, and they go on behind the same one.
+pub record IsSamePageInDetail (on : MapShown) (mark other : Option Mark) (text again : List ℕ)
     : Type 0 where
   pub all : List Detailed
   pub next : Option KeyValue
-  pub text_is : IsJsonLine (page_object road all next mark) text
-  pub again_is : IsJsonLine (page_object road all next other) again
+  pub text_is : IsJsonLine (page_object on all next mark) text
+  pub again_is : IsJsonLine (page_object on all next other) again

@@ -4,6 +4,7 @@ ghost use Rattle.std.specs.Prelude.{◌≡◌, ◌++◌, ◌<◌, codes, length,
 ghost use Rattle.serde_json.specs.Data.{member, no_members, object};
 ghost use Rattle.olr_binary.specs.Reference.{points_of};
 ghost use Rattle.olr_candidates.specs.Points.{AreLists, IsListOf, lists_of};
+ghost use Rattle.olr_report.specs.ShownMap.{map_shown};
 ghost use Rattle.olr_text.specs.JsonValues.{IsJsonLine, array_of};
 ghost use Rattle.olr_detail.specs.Json.{candidate_object, listing_object};
 ghost use Rattle.olr_detail.specs.Listing.{AreDetailsAt, AreListsInDetail, details_of};
@@ -14,7 +15,7 @@ use crate::text::push_candidate;
 use arrayvec::ArrayVec;
 use olr_base::NoMemory;
 use olr_candidates::{Candidate, MAX_CANDIDATES, ReferenceOnMap};
-use olr_report::OnMap;
+use olr_report::{OnMap, ShownMap};
 use olr_road::Map;
 use olr_text::{Decimal, ToJson, ToText, push_texts, send_object, to_json_line};
 use serde::Serializer;
@@ -67,10 +68,10 @@ impl ToText<ListedOn<'_>> for PointDetails {
 }
 
 /// The array of the candidates of a point.
-impl ToJson<OnMap<'_>> for PointDetails {
-    ghost value = { λ on point. array_of (candidate_object on.map.now) point.candidates.items };
+impl ToJson<ShownMap<'_>> for PointDetails {
+    ghost value = { λ on point. array_of (candidate_object (map_shown on)) point.candidates.items };
 
-    fn send<S: Serializer>(&self, on: &OnMap<'_>, out: &mut S) -> Result<(), S::Error> {
+    fn send<S: Serializer>(&self, on: &ShownMap<'_>, out: &mut S) -> Result<(), S::Error> {
         self.candidates.send(on, out)
     }
 }
@@ -82,13 +83,13 @@ struct DetailedListing<'a> {
 }
 
 /// The object of the candidates of each point.
-impl ToJson<OnMap<'_>> for DetailedListing<'_> {
+impl ToJson<ShownMap<'_>> for DetailedListing<'_> {
     ghost value = { λ on listing. object (member (codes "points")
-        (array_of (λ point. array_of (candidate_object on.map.now) point.candidates.items)
+        (array_of (λ point. array_of (candidate_object (map_shown on)) point.candidates.items)
         listing.points.now)
         no_members) };
 
-    fn send<S: Serializer>(&self, on: &OnMap<'_>, out: &mut S) -> Result<(), S::Error> {
+    fn send<S: Serializer>(&self, on: &ShownMap<'_>, out: &mut S) -> Result<(), S::Error> {
         send_object!(on, out, { "points": self.points })
     }
 }
@@ -152,15 +153,17 @@ pub fn listing_text(alloc: Global, map: &Map, details: &[PointDetails]) -> Resul
 }
 
 /// The JSON of the candidates of each point, with what speaks for each: one compact object and a
-/// line feed. It has `points`, an array with the candidates of each point, by rank.
+/// line feed. It has `points`, an array with the candidates of each point, by rank. Where shapes are
+/// asked for, each has its `spot`.
 ///
 /// # Errors
 ///
 /// [`NoMemory`] where the allocator refused memory.
-pub fn listing_json(alloc: Global, map: &Map, details: &[PointDetails]) -> Result<String, NoMemory>
+pub fn listing_json(on: &ShownMap<'_>, details: &[PointDetails]) -> Result<String, NoMemory>
     ensures { IfOk result (λ text.
-        IsJsonLine (listing_object map.now (details_of details.now)) (string_bytes text)) }
+        IsJsonLine (listing_object (map_shown on.now) (details_of details.now))
+        (string_bytes text)) }
 {
-    let text = to_json_line(alloc, &OnMap { map }, &DetailedListing { points: details })?;
+    let text = to_json_line(on.alloc, on, &DetailedListing { points: details })?;
     Ok(text)
 }

@@ -5,6 +5,7 @@ ghost use Rattle.serde_json.specs.Data.{member, no_members, object, string};
 ghost use Rattle.olr_text.specs.JsonValues.{array_of, or_null};
 ghost use Rattle.olr_text.specs.Texts.{unnumbered};
 ghost use Rattle.olr_keys.specs.Page.{page_of};
+ghost use Rattle.olr_report.specs.ShownMap.{map_shown};
 ghost use Rattle.olr_detail.specs.Json.{detailed_object};
 ghost use Rattle.olr_detail.specs.Page.{AreDetailed, CanBeShownInDetail, IsDetailedEntry, IsPageJson, IsPageText, detailed_of};
 ghost use Rattle.olr_detail.specs.Text.{detailed_rows};
@@ -18,7 +19,7 @@ use olr_candidates::ReferenceOnMap;
 use olr_keys::{Cursor, Key, Mark, Page};
 use olr_matching::Matched;
 use olr_report::{
-    Entry, OnMap, entry_of, next_after, next_cursor, push_end, push_location, push_pieces,
+    Entry, OnMap, ShownMap, entry_of, next_after, next_cursor, push_end, push_location, push_pieces,
 };
 use olr_text::{ToJson, ToText, push_texts, send_object, to_json_line};
 use serde::Serializer;
@@ -33,15 +34,17 @@ pub(crate) struct DetailedEntry<'a> {
 }
 
 /// The object of the matching.
-impl ToJson<OnMap<'_>> for DetailedEntry<'_> {
-    ghost value = { λ on one. detailed_object on.map.now (detailed_of one) };
+impl ToJson<ShownMap<'_>> for DetailedEntry<'_> {
+    ghost value = { λ on one. detailed_object (map_shown on) (detailed_of one) };
 
-    fn send<S: Serializer>(&self, on: &OnMap<'_>, out: &mut S) -> Result<(), S::Error> {
+    fn send<S: Serializer>(&self, on: &ShownMap<'_>, out: &mut S) -> Result<(), S::Error> {
         let shown = ShownInDetail {
             key: self.entry.key,
+            matched: self.entry.matched,
             route: &self.entry.route,
             location: &self.entry.location,
             detail: &self.detail,
+            part: None,
         };
         shown.send(on, out)
     }
@@ -72,13 +75,13 @@ struct DetailedPage<'a> {
 }
 
 /// The object of a page.
-impl ToJson<OnMap<'_>> for DetailedPage<'_> {
+impl ToJson<ShownMap<'_>> for DetailedPage<'_> {
     ghost value = { λ on page. object (
         member (codes "matchings")
-        (array_of (λ one. detailed_object on.map.now (detailed_of one)) page.matchings.items) (
+        (array_of (λ one. detailed_object (map_shown on) (detailed_of one)) page.matchings.items) (
         member (codes "next") (or_null (λ next. string next.bytes) page.next) no_members)) };
 
-    fn send<S: Serializer>(&self, on: &OnMap<'_>, out: &mut S) -> Result<(), S::Error> {
+    fn send<S: Serializer>(&self, on: &ShownMap<'_>, out: &mut S) -> Result<(), S::Error> {
         send_object!(on, out, { "matchings": self.matchings, "next": self.next })
     }
 }
@@ -101,7 +104,7 @@ fn detailed_entry<'a>(
 }
 
 /// The matchings of a page, and what speaks for each.
-fn detailed_entries<'a>(
+pub(crate) fn detailed_entries<'a>(
     alloc: Global,
     on: &ReferenceOnMap<'_>,
     page: &'a Page,
@@ -123,7 +126,8 @@ fn detailed_entries<'a>(
 
 /// The JSON of a page as [`olr_report::json_page`] makes it, with what speaks for each matching: its
 /// `cost` and whether it `turns_back`; for each of its points the `parts` of the penalty, `distance`,
-/// `sectors`, `classes`, `form` and `end`; for each of its legs `least`, `greatest` and `limit`.
+/// `sectors`, `classes`, `form` and `end`; for each of its legs `least`, `greatest` and `limit`. Where
+/// `shapes` are asked for, it has its `shape`, and each of its points its `spot`.
 ///
 /// # Errors
 ///
@@ -134,21 +138,19 @@ pub fn json_page_in_detail(
     page: &Page,
     matched: &[Matched],
     mark: Option<&Mark>,
+    shapes: bool,
 ) -> Result<String, NoMemory>
     requires one_each { length matched.now ≡ length page.now.keys.items }
     requires shown { All (CanBeShownInDetail on.now.tolerances on.now.reference.now
         on.now.map.now) matched.now }
     ensures { let mark = option_map (λ mark. mark.now) mark.entry in IfOk result (λ text.
-        IsPageJson on.now.tolerances on.now.reference.now on.now.map.now (page_of page.now)
-        matched.now mark (string_bytes text)) }
+        IsPageJson on.now.tolerances on.now.reference.now on.now.map.now shapes
+        (page_of page.now) matched.now mark (string_bytes text)) }
 {
     let matchings = detailed_entries(alloc, on, page, matched)?;
     let next = next_cursor(next_after(page), mark);
-    let line = to_json_line(
-        alloc,
-        &OnMap { map: on.map },
-        &DetailedPage { matchings, next },
-    )?;
+    let shown = ShownMap::new(alloc, on.map, on.reference, shapes);
+    let line = to_json_line(alloc, &shown, &DetailedPage { matchings, next })?;
     Ok(line)
 }
 
