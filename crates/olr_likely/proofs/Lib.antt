@@ -6,6 +6,7 @@ pub mod Widest
 pub mod Found
 pub mod Nested
 pub mod Written
+pub mod Features
 pub mod Joined
 pub mod ByTotal
 pub mod Values

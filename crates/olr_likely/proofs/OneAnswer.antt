@@ -25,7 +25,7 @@ use Rattle.olr_places.specs.declared.opener.Opener.{Opener}
 use Rattle.olr_likely.specs.Answer.{ending_within, is_cut}
 use Rattle.olr_likely.specs.Asking.{AreAsked, AreFoundByCost, AreFoundByTotal, AreFoundIn}
 use Rattle.olr_likely.specs.Finding.{AreWidest}
-use Rattle.olr_likely.specs.OneAnswer.{LawsBelow, OneJson, OneLooking, OneText}
+use Rattle.olr_likely.specs.OneAnswer.{LawsBelow, OneGeoJson, OneJson, OneLooking, OneText}
 use Rattle.olr_likely.specs.Ranked.{AreLookedAt, HasLikelyCost, openers_in}
 use Rattle.olr_likely.specs.Showing.{AreInDetail, IsInDetail, shown_by_cost, shown_by_total}
 use Rattle.olr_likely.specs.declared.asking.PlaceOrder.{PlaceOrder}
@@ -35,7 +35,7 @@ use Rattle.olr_likely.specs.declared.showing.ShownPlace.{ShownPlace}
 use Rattle.olr_likely.specs.declared.showing.ShownPlaces.{ShownPlaces}
 use Rattle.olr_likely.proofs.OneOrder.{one_cut, one_ending, one_listed, one_margin, shown_once}
 use Rattle.olr_likely.proofs.ByTotal.{next_is, verdict_is}
-use Rattle.olr_likely.proofs.Values.{AreAlike, OpenerValue, RankedValue, ShownValue, opener_value, ranked_value, same_json, same_made, same_parts, same_text, shown_value}
+use Rattle.olr_likely.proofs.Values.{AreAlike, OpenerValue, RankedValue, ShownValue, opener_value, ranked_value, same_geojson, same_json, same_made, same_parts, same_text, shown_value}
 
 -- ---- openers
 
@@ -323,6 +323,11 @@ one_text below looking limits road layers order detailed one other sound is its 
     (asked_once below looking limits road layers sound order detailed one other is its)
 
 pub one_json : LawsBelow → OneJson
-one_json below looking limits road layers order detailed one other sound is its =
-    same_json road one other
-    (asked_once below looking limits road layers sound order detailed one other is its)
+one_json below looking limits on layers order detailed one other sound is its =
+    same_json on one other
+    (asked_once below looking limits on.road layers sound order detailed one other is its)
+
+pub one_geojson : LawsBelow → OneGeoJson
+one_geojson below looking limits on layers reference part order detailed one other sound is its =
+    same_geojson on reference part one other
+    (asked_once below looking limits on.road layers sound order detailed one other is its)

@@ -1,14 +1,19 @@
 -- Places by what text and JSON show of them, which is one value.
-use Rattle.std.proofs.Common.{◌≡◌, ℕ, ◌+◌, Bool, List, [], ◌∷◌, ◌++◌, map, Option, None, Some, refl, sym, ap, ◌∙◌}
+use Rattle.std.proofs.Common.{◌≡◌, ℕ, ◌+◌, List, [], ◌∷◌, ◌++◌, map, Option, None, Some, refl, sym, ap, ◌∙◌}
+use Rattle.olr_binary.specs.declared.reference.Reference.{Reference}
 use Rattle.olr_road.specs.RoadMap.{RoadMap}
 use Rattle.olr_text.specs.Texts.{texts_from}
+use Rattle.olr_detail.specs.Drawing.{part_named}
 use Rattle.olr_detail.specs.declared.cost.LikelyCost.{LikelyCost}
 use Rattle.olr_detail.specs.declared.matching_detail.MatchingDetail.{MatchingDetail}
 use Rattle.olr_report.specs.Entries.{Entry}
 use Rattle.olr_report.specs.Json.{entry_object}
+use Rattle.olr_report.specs.ShownMap.{MapShown}
+use Rattle.olr_report.specs.declared.route_part.RoutePart.{RoutePart}
 use Rattle.olr_places.specs.Places.{entry_of}
 use Rattle.olr_places.specs.declared.opener.Opener.{Opener}
-use Rattle.olr_likely.specs.Json.{opener_object, place_object, place_object_by, shown_object, shown_object_by}
+use Rattle.olr_likely.specs.GeoJson.{place_feature, shown_collection}
+use Rattle.olr_likely.specs.Json.{opener_object, place_object, shown_object}
 use Rattle.olr_likely.specs.Text.{place_rows, shown_text}
 use Rattle.olr_likely.specs.declared.ranked.RankedPlace.{RankedPlace}
 use Rattle.olr_likely.specs.declared.showing.RankAndCost.{RankAndCost}
@@ -110,66 +115,76 @@ module _ (road : RoadMap) where
     are.next,
   ) refl
 
+-- what is made of each place is the same
+same_each : {A : Type 0} (made : ShownPlace → A)
+    → ((one other : ShownPlace) → shown_value one ≡ shown_value other → made one ≡ made other)
+    → (ones others : List ShownPlace) → map shown_value ones ≡ map shown_value others
+    → map made ones ≡ map made others
+same_each made each [] [] same = refl
+same_each made each [] (other ∷ others) same = absurd cc
+same_each made each (one ∷ ones) [] same = absurd cc
+same_each made each (one ∷ ones) (other ∷ others) same =
+    let parts = same_parts (shown_value one) (shown_value other) (map shown_value ones)
+    (map shown_value others) same in
+    let first = each one other parts.0 in
+    let rest = same_each made each ones others parts.1 in
+    λ k. first k ∷ rest k
+
+module _ (on : MapShown) where
   same_opener : (one other : Opener) (detail : Option MatchingDetail)
       → opener_value one ≡ opener_value other
-      → opener_object road one detail ≡ opener_object road other detail
+      → opener_object on one detail ≡ opener_object on other detail
   same_opener one other None same =
-      ap (λ (value : OpenerValue). entry_object road value.entry) same
+      ap (λ (value : OpenerValue). entry_object on value.entry) same
   same_opener one other (Some detail) same = rw (
     ap (λ (value : OpenerValue). value.entry.key) same,
+    ap (λ (value : OpenerValue). value.entry.matched) same,
     ap (λ (value : OpenerValue). value.entry.route) same,
     ap (λ (value : OpenerValue). value.entry.located) same,
   ) refl
 
-  same_object_by : (one other : ShownPlace) (likely : Option RankAndCost)
-      → opener_object road one.opener one.detail ≡ opener_object road other.opener other.detail
-      → one.opener.gap ≡ other.opener.gap → one.opener.members ≡ other.opener.members
-      → place_object_by road one likely ≡ place_object_by road other likely
-  same_object_by one other None matching gap members = rw (matching, gap, members) refl
-  same_object_by one other (Some likely) matching gap members = rw (matching, gap, members) refl
-
-  same_object : (one other : ShownPlace) → shown_value one ≡ shown_value other
-      → place_object road one ≡ place_object road other
-  same_object one other same =
-      same_object_by one other one.likely
-      (same_opener one.opener other.opener one.detail
-      (ap (λ (value : ShownValue). value.opener) same)
-      ∙ ap (opener_object road other.opener) (ap (λ (value : ShownValue). value.detail) same))
-      (ap (λ (value : ShownValue). value.opener.gap) same)
-      (ap (λ (value : ShownValue). value.opener.members) same)
-      ∙ ap (place_object_by road other) (ap (λ (value : ShownValue). value.likely) same)
-
-  same_objects : (ones others : List ShownPlace)
-      → map shown_value ones ≡ map shown_value others
-      → map (place_object road) ones ≡ map (place_object road) others
-  same_objects [] [] same = refl
-  same_objects [] (other ∷ others) same = absurd cc
-  same_objects (one ∷ ones) [] same = absurd cc
-  same_objects (one ∷ ones) (other ∷ others) same =
-      let parts = same_parts (shown_value one) (shown_value other) (map shown_value ones)
-      (map shown_value others) same in
-      let first = same_object one other parts.0 in
-      let rest = same_objects ones others parts.1 in
-      λ k. first k ∷ rest k
-
-  same_members : (one other : ShownPlaces) (cut : Option Bool) → AreAlike one other
-      → shown_object_by road one cut ≡ shown_object_by road other cut
-  same_members one other None are = rw (
-    same_objects one.places.items other.places.items are.places,
-    are.looked,
-    are.margin,
-    are.verdict,
-    are.next,
-  ) refl
-  same_members one other (Some cut) are = rw (
-    same_objects one.places.items other.places.items are.places,
-    are.looked,
-    are.margin,
-    are.verdict,
-    are.next,
+  pub same_object : (part : Option RoutePart) (one other : ShownPlace)
+      → shown_value one ≡ shown_value other
+      → place_object on part one ≡ place_object on part other
+  same_object part one other same = rw (
+    same_opener one.opener other.opener one.detail
+        (ap (λ (value : ShownValue). value.opener) same),
+    ap (λ (value : ShownValue). value.detail) same,
+    ap (λ (value : ShownValue). value.likely) same,
+    ap (λ (value : ShownValue). value.opener.gap) same,
+    ap (λ (value : ShownValue). value.opener.members) same,
   ) refl
 
   pub same_json : (one other : ShownPlaces) → AreAlike one other
-      → shown_object road one ≡ shown_object road other
-  same_json one other are =
-      same_members one other one.cut are ∙ ap (shown_object_by road other) are.cut
+      → shown_object on one ≡ shown_object on other
+  same_json one other are = rw (
+    same_each (place_object on None) (same_object None) one.places.items other.places.items
+        are.places,
+    are.looked,
+    are.margin,
+    are.verdict,
+    are.next,
+    are.cut,
+  ) refl
+
+  module _ (reference : Reference) (part : RoutePart) where
+    same_feature : (one other : ShownPlace) → shown_value one ≡ shown_value other
+        → place_feature on reference part one ≡ place_feature on reference part other
+    same_feature one other same = rw (
+      same_object (part_named reference part) one other same,
+      ap (λ (value : ShownValue). value.opener.entry.matched) same,
+      ap (λ (value : ShownValue). value.opener.entry.route) same,
+      ap (λ (value : ShownValue). value.opener.entry.located) same,
+    ) refl
+
+    pub same_geojson : (one other : ShownPlaces) → AreAlike one other
+        → shown_collection on reference part one ≡ shown_collection on reference part other
+    same_geojson one other are = rw (
+      same_each (place_feature on reference part) same_feature one.places.items
+          other.places.items are.places,
+      are.looked,
+      are.margin,
+      are.verdict,
+      are.next,
+      are.cut,
+    ) refl

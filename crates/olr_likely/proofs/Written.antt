@@ -1,42 +1,62 @@
 -- What is written of the places that are shown is their object.
 use Rattle.arrayvec.specs.ArrayString.{ArrayString}
-use Rattle.std.proofs.Common.{◌≡◌, Bool, List, ℕ, Option, None, Some, option_map, ap, sym, refl, ◌∙◌}
+use Rattle.std.proofs.Common.{◌≡◌, List, ℕ, Option, None, option_map, refl}
 use Rattle.std.specs.Borrow.{Bor}
 use Rattle.std.specs.Prelude.{codes}
-use Rattle.serde_json.specs.Data.{Members, boolean, member, no_members, object, string}
-use Rattle.olr_text.specs.JsonValues.{array_of, or_null, whole, whole_or_null}
+use Rattle.serde_json.specs.Data.{Data, boolean, member, no_members, object, string}
+use Rattle.olr_text.specs.JsonValues.{array_of, maybe_member, or_null, whole, whole_or_null}
 use Rattle.olr_keys.specs.Cursor.{cursor_text}
 use Rattle.olr_keys.specs.Key.{KeyValue}
-use Rattle.olr_road.specs.RoadMap.{RoadMap}
 use Rattle.olr_places.specs.Verdict.{verdict_word}
 use Rattle.olr_report.proofs.ShownPage.{same_next}
-use Rattle.olr_likely.specs.Json.{place_object, shown_members, shown_object, shown_object_by}
+use Rattle.olr_report.specs.ShownMap.{MapShown}
+use Rattle.olr_report.specs.RoutePart.{part_drawn}
+use Rattle.olr_report.specs.declared.route_part.RoutePart.{RoutePart}
+use Rattle.olr_likely.specs.GeoJson.{places_members}
+use Rattle.olr_likely.specs.Json.{cost_value, opener_object, place_object, rank_value, shown_object}
+use Rattle.olr_likely.specs.declared.showing.ShownPlace.{ShownPlace}
 use Rattle.olr_likely.specs.declared.showing.ShownPlaces.{ShownPlaces}
 
-module _ (road : RoadMap) (shown : ShownPlaces) (next : Option ArrayString)
+pub same_place : (on : MapShown) (part : Option RoutePart) (place : ShownPlace)
+    (cost word rank : Option Data) → cost ≡ cost_value place → word ≡ part_drawn part
+    → rank ≡ rank_value place
+    → object (
+    maybe_member (codes "cost") cost (
+    member (codes "gap") (whole place.opener.gap) (
+    member (codes "matching") (opener_object on place.opener place.detail) (
+    member (codes "members") (whole place.opener.members) (
+    maybe_member (codes "part") word (
+    maybe_member (codes "rank") rank no_members))))))
+    ≡ place_object on part place
+same_place on part place cost word rank cost_is word_is rank_is k = object (
+    maybe_member (codes "cost") (cost_is k) (
+    member (codes "gap") (whole place.opener.gap) (
+    member (codes "matching") (opener_object on place.opener place.detail) (
+    member (codes "members") (whole place.opener.members) (
+    maybe_member (codes "part") (word_is k) (
+    maybe_member (codes "rank") (rank_is k) no_members))))))
+
+module _ (shown : ShownPlaces) (next : Option ArrayString)
     (found : Option (Bor KeyValue)) (word : List ℕ)
     (same : option_map (λ text. text.bytes) next
     ≡ option_map (λ (key : Bor KeyValue). cursor_text key.now None) found)
     (next_is : option_map (λ (key : Bor KeyValue). key.now) found ≡ shown.next)
     (word_is : word ≡ verdict_word shown.verdict) where
-  -- the members that are written
-  abbrev pub written : Members
-  written =
+  pub same_places : (on : MapShown) → object (
+      maybe_member (codes "cut") (option_map boolean shown.cut) (
       member (codes "looked") (whole shown.looked) (
       member (codes "margin") (whole_or_null shown.margin) (
       member (codes "next") (or_null (λ text. string text.bytes) next) (
-      member (codes "places") (array_of (place_object road) shown.places.items) (
-      member (codes "verdict") (string word) no_members))))
+      member (codes "places") (array_of (place_object on None) shown.places.items) (
+      member (codes "verdict") (string word) no_members))))))
+      ≡ shown_object on shown
+  same_places on = rw (word_is, same_next next found shown.next None same next_is) refl
 
-  same_members : written ≡ shown_members road shown
-  same_members = rw (word_is, same_next next found shown.next None same next_is) refl
-
-  pub same_with_cut : (cut : Bool) → shown.cut ≡ Some cut
-      → object (member (codes "cut") (boolean cut) written) ≡ shown_object road shown
-  same_with_cut cut is =
-      ap (λ members. object (member (codes "cut") (boolean cut) members)) same_members
-      ∙ ap (shown_object_by road shown) (sym is)
-
-  pub same_without_cut : shown.cut ≡ None → object written ≡ shown_object road shown
-  same_without_cut is = ap (λ members. object members) same_members
-      ∙ ap (shown_object_by road shown) (sym is)
+  pub same_behind : object (
+      member (codes "looked") (whole shown.looked) (
+      member (codes "margin") (whole_or_null shown.margin) (
+      member (codes "next") (or_null (λ text. string text.bytes) next) (
+      member (codes "type") (string (codes "FeatureCollection")) (
+      member (codes "verdict") (string word) no_members)))))
+      ≡ object (places_members shown)
+  same_behind = rw (word_is, same_next next found shown.next None same next_is) refl

@@ -1,57 +1,55 @@
 -- The JSON of places as they are shown, as a value: each member of an object under its name, in the
 -- order of the names. All numbers are whole; gaps are in penalty points, costs in thirtieths of one.
-use Rattle.std.specs.Prelude.{Bool, Option, None, Some, codes}
+use Rattle.std.specs.Prelude.{Option, None, Some, codes, option_map}
 use Rattle.serde_json.specs.Data.{Data, Members, boolean, string, object, no_members, member}
-use Rattle.olr_text.specs.JsonValues.{array_of, whole, whole_or_null}
-use Rattle.olr_road.specs.RoadMap.{RoadMap}
+use Rattle.olr_text.specs.JsonValues.{array_of, maybe_member, whole, whole_or_null}
 use Rattle.olr_report.specs.Json.{entry_object, next_value}
 use Rattle.olr_report.specs.Location.{located_value}
+use Rattle.olr_report.specs.RoutePart.{part_drawn}
+use Rattle.olr_report.specs.ShownMap.{MapShown}
+use Rattle.olr_report.specs.declared.route_part.RoutePart.{RoutePart}
 use Rattle.olr_detail.specs.Json.{matching_object}
 use Rattle.olr_detail.specs.declared.matching_detail.MatchingDetail.{MatchingDetail}
 use Rattle.olr_places.specs.Places.{entry_of}
 use Rattle.olr_places.specs.Verdict.{verdict_word}
 use Rattle.olr_places.specs.declared.opener.Opener.{Opener}
-use Rattle.olr_likely.specs.declared.showing.RankAndCost.{RankAndCost}
 use Rattle.olr_likely.specs.declared.showing.ShownPlace.{ShownPlace}
 use Rattle.olr_likely.specs.declared.showing.ShownPlaces.{ShownPlaces}
 
 -- the matching that opened a place: as a page has it, or with what speaks for it
-abbrev pub opener_object : RoadMap → Opener → Option MatchingDetail → Data
-opener_object road opener None = entry_object road (entry_of opener)
-opener_object road opener (Some detail) = matching_object road opener.key opener.route.items
-    (located_value opener.covered.located) detail
+abbrev pub opener_object : MapShown → Opener → Option MatchingDetail → Data
+opener_object on opener None = entry_object on (entry_of opener)
+opener_object on opener (Some detail) = matching_object on None opener.key opener.matched
+    opener.route.items (located_value opener.covered.located) detail
 
--- a place, which in the likely order has a rank and a cost
-abbrev pub place_object_by : RoadMap → ShownPlace → Option RankAndCost → Data
-place_object_by road place None = object (
+-- the cost and the rank of a place, which it has in the likely order
+abbrev pub cost_value : ShownPlace → Option Data
+cost_value place = option_map (λ likely. whole likely.cost) place.likely
+
+abbrev pub rank_value : ShownPlace → Option Data
+rank_value place = option_map (λ likely. whole likely.rank) place.likely
+
+-- a place, and the part of the route of its opener that is drawn, if one is
+abbrev pub place_object : MapShown → Option RoutePart → ShownPlace → Data
+place_object on part place = object (
+    maybe_member (codes "cost") (cost_value place) (
     member (codes "gap") (whole place.opener.gap) (
-    member (codes "matching") (opener_object road place.opener place.detail) (
-    member (codes "members") (whole place.opener.members) no_members)))
-place_object_by road place (Some likely) = object (
-    member (codes "cost") (whole likely.cost) (
-    member (codes "gap") (whole place.opener.gap) (
-    member (codes "matching") (opener_object road place.opener place.detail) (
+    member (codes "matching") (opener_object on place.opener place.detail) (
     member (codes "members") (whole place.opener.members) (
-    member (codes "rank") (whole likely.rank) no_members)))))
-
-abbrev pub place_object : RoadMap → ShownPlace → Data
-place_object road place = place_object_by road place place.likely
+    maybe_member (codes "part") (part_drawn part) (
+    maybe_member (codes "rank") (rank_value place) no_members))))))
 
 -- the members of the places that are shown: how many matchings were looked at, the margin, the
 -- cursor after which looking would go on, the places, and the verdict
-abbrev pub shown_members : RoadMap → ShownPlaces → Members
-shown_members road shown =
+abbrev pub shown_members : MapShown → ShownPlaces → Members
+shown_members on shown =
     member (codes "looked") (whole shown.looked) (
     member (codes "margin") (whole_or_null shown.margin) (
     member (codes "next") (next_value shown.next None) (
-    member (codes "places") (array_of (place_object road) shown.places.items) (
+    member (codes "places") (array_of (place_object on None) shown.places.items) (
     member (codes "verdict") (string (verdict_word shown.verdict)) no_members))))
 
 -- their object, which in the likely order says whether a place may be missing
-abbrev pub shown_object_by : RoadMap → ShownPlaces → Option Bool → Data
-shown_object_by road shown None = object (shown_members road shown)
-shown_object_by road shown (Some cut) =
-    object (member (codes "cut") (boolean cut) (shown_members road shown))
-
-abbrev pub shown_object : RoadMap → ShownPlaces → Data
-shown_object road shown = shown_object_by road shown shown.cut
+abbrev pub shown_object : MapShown → ShownPlaces → Data
+shown_object on shown = object (
+    maybe_member (codes "cut") (option_map boolean shown.cut) (shown_members on shown))

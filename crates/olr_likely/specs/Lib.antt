@@ -4,6 +4,7 @@ pub mod Answer
 pub mod Finding
 pub mod Showing
 pub mod Json
+pub mod GeoJson
 pub mod Text
 pub mod Asking
 pub mod LikelyLaws

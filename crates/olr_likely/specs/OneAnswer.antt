@@ -1,14 +1,18 @@
--- What is asked is one thing: places as they are asked for have one text and one JSON. The laws are
--- the contract of a public function that does nothing at run time.
+-- What is asked is one thing: places as they are asked for have one text, one JSON and one GeoJSON.
+-- The laws are the contract of a public function that does nothing at run time.
 use Rattle.std.specs.Prelude.{◌≡◌, Bool, List}
+use Rattle.olr_binary.specs.declared.reference.Reference.{Reference}
 use Rattle.olr_keys.specs.Key.{KeyValue}
 use Rattle.olr_keys.specs.Laws.{OneList}
 use Rattle.olr_road.specs.RoadMap.{IsSoundMap, RoadMap}
 use Rattle.olr_matching.specs.Layers.{LayersValue}
+use Rattle.olr_report.specs.ShownMap.{MapShown}
+use Rattle.olr_report.specs.declared.route_part.RoutePart.{RoutePart}
 use Rattle.olr_detail.specs.Laws.{OneMatchingDetail}
 use Rattle.olr_places.specs.Looking.{IsLooked, Looked}
 use Rattle.olr_places.specs.declared.limits.PlaceLimits.{PlaceLimits}
 use Rattle.olr_likely.specs.Asking.{AreAsked}
+use Rattle.olr_likely.specs.GeoJson.{shown_collection}
 use Rattle.olr_likely.specs.Json.{shown_object}
 use Rattle.olr_likely.specs.Text.{shown_text}
 use Rattle.olr_likely.specs.declared.asking.PlaceOrder.{PlaceOrder}
@@ -31,13 +35,22 @@ OneText = OneLooking → (limits : PlaceLimits) (road : RoadMap) (layers : Layer
     → AreAsked limits road layers order detailed other
     → shown_text road one ≡ shown_text road other
 
--- and the same JSON
+-- and the same JSON, with shapes or without
 abbrev pub OneJson : Type 0
-OneJson = OneLooking → (limits : PlaceLimits) (road : RoadMap) (layers : LayersValue)
-    (order : PlaceOrder) (detailed : Bool) (one other : ShownPlaces) → IsSoundMap road
-    → AreAsked limits road layers order detailed one
-    → AreAsked limits road layers order detailed other
-    → shown_object road one ≡ shown_object road other
+OneJson = OneLooking → (limits : PlaceLimits) (on : MapShown) (layers : LayersValue)
+    (order : PlaceOrder) (detailed : Bool) (one other : ShownPlaces) → IsSoundMap on.road
+    → AreAsked limits on.road layers order detailed one
+    → AreAsked limits on.road layers order detailed other
+    → shown_object on one ≡ shown_object on other
+
+-- and the same GeoJSON, drawn by the same part of the routes of the same reference
+abbrev pub OneGeoJson : Type 0
+OneGeoJson = OneLooking → (limits : PlaceLimits) (on : MapShown) (layers : LayersValue)
+    (reference : Reference) (part : RoutePart) (order : PlaceOrder) (detailed : Bool)
+    (one other : ShownPlaces) → IsSoundMap on.road
+    → AreAsked limits on.road layers order detailed one
+    → AreAsked limits on.road layers order detailed other
+    → shown_collection on reference part one ≡ shown_collection on reference part other
 
 -- ---- what these rest on
 

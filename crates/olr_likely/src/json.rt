@@ -1,18 +1,17 @@
 //! The JSON of places as they are shown.
 
-ghost use Rattle.std.specs.Prelude.{IfOk, string_bytes};
-ghost use Rattle.olr_text.specs.JsonValues.{IsJsonLine};
-ghost use Rattle.olr_likely.specs.Json.{opener_object, place_object, shown_object};
+ghost use Rattle.std.specs.Prelude.{◌≡◌, IfOk, None, option_map, string_bytes};
+ghost use Rattle.olr_report.specs.ShownMap.{map_shown};
+ghost use Rattle.olr_text.specs.JsonValues.{IsJsonLine, whole};
+ghost use Rattle.olr_likely.specs.Json.{cost_value, opener_object, place_object, rank_value, shown_object};
 
 use crate::showing::{ShownPlace, ShownPlaces};
 use olr_base::NoMemory;
 use olr_detail::{MatchingDetail, ShownInDetail};
 use olr_places::Opener;
-use olr_report::{OnMap, ShownMatching, next_cursor};
-use olr_road::Map;
+use olr_report::{RoutePart, ShownMap, ShownMatching, next_cursor, word_drawn};
 use olr_text::{ToJson, send_object, to_json_line};
 use serde::Serializer;
-use std::alloc::Global;
 
 /// The matching that opened a place, with what speaks for it where that is asked for.
 #[derive(Clone, Copy)]
@@ -22,18 +21,20 @@ struct ShownOpener<'a> {
 }
 
 /// The object of the matching.
-impl ToJson<OnMap<'_>> for ShownOpener<'_> {
-    ghost value = { λ on shown. opener_object on.map.now shown.opener.now shown.detail.now };
+impl ToJson<ShownMap<'_>> for ShownOpener<'_> {
+    ghost value = { λ on shown. opener_object (map_shown on) shown.opener.now shown.detail.now };
 
-    fn send<S: Serializer>(&self, on: &OnMap<'_>, out: &mut S) -> Result<(), S::Error> {
+    fn send<S: Serializer>(&self, on: &ShownMap<'_>, out: &mut S) -> Result<(), S::Error> {
         let opener = self.opener;
         match self.detail {
             Some(detail) => {
                 let shown = ShownInDetail {
                     key: &opener.key,
+                    matched: &opener.matched,
                     route: &opener.route,
                     location: opener.covered.location(),
                     detail,
+                    part: None,
                 };
                 shown.send(on, out)
             }
@@ -43,6 +44,7 @@ impl ToJson<OnMap<'_>> for ShownOpener<'_> {
                     matched: &opener.matched,
                     route: &opener.route,
                     location: opener.covered.location(),
+                    part: None,
                 };
                 shown.send(on, out)
             }
@@ -50,57 +52,83 @@ impl ToJson<OnMap<'_>> for ShownOpener<'_> {
     }
 }
 
-/// The object of a place.
-impl ToJson<OnMap<'_>> for ShownPlace {
-    ghost value = { λ on. place_object on.map.now };
+/// The cost of a place, in the likely order.
+fn cost_of(place: &ShownPlace) -> Option<u32>
+    ensures { option_map whole result ≡ cost_value place.now }
+{
+    let likely = place.likely?;
+    Some(likely.cost)
+}
 
-    fn send<S: Serializer>(&self, on: &OnMap<'_>, out: &mut S) -> Result<(), S::Error> {
-        let opener = &self.opener;
+/// The rank of a place, in the likely order.
+fn rank_of(place: &ShownPlace) -> Option<usize>
+    ensures { option_map whole result ≡ rank_value place.now }
+{
+    let likely = place.likely?;
+    Some(likely.rank)
+}
+
+/// A place, and the part of the route of its opener that is drawn, if one is.
+#[derive(Clone, Copy)]
+pub(crate) struct DrawnPlace<'a> {
+    pub place: &'a ShownPlace,
+    pub part: Option<RoutePart>,
+}
+
+/// The object of the place.
+impl ToJson<ShownMap<'_>> for DrawnPlace<'_> {
+    ghost value = { λ on drawn. place_object (map_shown on) drawn.part drawn.place.now };
+
+    fn send<S: Serializer>(&self, on: &ShownMap<'_>, out: &mut S) -> Result<(), S::Error> {
+        let place = self.place;
+        let opener = &place.opener;
         let matching = ShownOpener {
             opener,
-            detail: &self.detail,
+            detail: &place.detail,
         };
-        match self.likely {
-            Some(likely) => send_object!(on, out, {
-                "cost": likely.cost,
-                "gap": opener.gap,
-                "matching": matching,
-                "members": opener.members,
-                "rank": likely.rank,
-            }),
-            None => send_object!(on, out, {
-                "gap": opener.gap,
-                "matching": matching,
-                "members": opener.members,
-            }),
-        }
+        let cost = cost_of(place);
+        let part = word_drawn(self.part);
+        let rank = rank_of(place);
+        send_object!(on, out, {
+            "cost"?: cost,
+            "gap": opener.gap,
+            "matching": matching,
+            "members": opener.members,
+            "part"?: part,
+            "rank"?: rank,
+        })
+    }
+}
+
+/// The object of the place, which no part is drawn of.
+impl ToJson<ShownMap<'_>> for ShownPlace {
+    ghost value = { λ on. place_object (map_shown on) None };
+
+    fn send<S: Serializer>(&self, on: &ShownMap<'_>, out: &mut S) -> Result<(), S::Error> {
+        let drawn = DrawnPlace {
+            place: self,
+            part: None,
+        };
+        drawn.send(on, out)
     }
 }
 
 /// The object of the places that are shown.
-impl ToJson<OnMap<'_>> for ShownPlaces {
-    ghost value = { λ on. shown_object on.map.now };
+impl ToJson<ShownMap<'_>> for ShownPlaces {
+    ghost value = { λ on. shown_object (map_shown on) };
 
-    fn send<S: Serializer>(&self, on: &OnMap<'_>, out: &mut S) -> Result<(), S::Error> {
+    fn send<S: Serializer>(&self, on: &ShownMap<'_>, out: &mut S) -> Result<(), S::Error> {
+        let cut = self.cut;
         let next = next_cursor(self.next.as_ref(), None);
         let verdict = self.verdict.word();
-        match self.cut {
-            Some(cut) => send_object!(on, out, {
-                "cut": cut,
-                "looked": self.looked,
-                "margin": self.margin,
-                "next": next,
-                "places": self.places,
-                "verdict": verdict,
-            }),
-            None => send_object!(on, out, {
-                "looked": self.looked,
-                "margin": self.margin,
-                "next": next,
-                "places": self.places,
-                "verdict": verdict,
-            }),
-        }
+        send_object!(on, out, {
+            "cut"?: cut,
+            "looked": self.looked,
+            "margin": self.margin,
+            "next": next,
+            "places": self.places,
+            "verdict": verdict,
+        })
     }
 }
 
@@ -108,16 +136,18 @@ impl ToJson<OnMap<'_>> for ShownPlaces {
 /// order of their names. It has how many matchings were `looked` at, the `margin` or null, as
 /// `next` the cursor after which looking would go on, or null, the `places`, and the `verdict`. A
 /// place has its `gap`, its opener as `matching`, and its `members`. In the likely order a place has
-/// its `cost` and its `rank` too, and the whole has `cut`, whether a place may be missing. In detail
-/// a matching is as [`olr_detail::json_page_in_detail`] has it.
+/// its `cost` and its `rank` too, and the whole has `cut`, whether a place may be missing. A
+/// matching is as [`olr_report::json_page_shown`] has it, in detail as
+/// [`olr_detail::json_page_in_detail`] has it, with its shape and its spots where these are asked
+/// for.
 ///
 /// # Errors
 ///
 /// [`NoMemory`] where the allocator refused memory.
-pub fn shown_json(alloc: Global, map: &Map, shown: &ShownPlaces) -> Result<String, NoMemory>
+pub fn shown_json(on: &ShownMap<'_>, shown: &ShownPlaces) -> Result<String, NoMemory>
     ensures { IfOk result (λ text.
-        IsJsonLine (shown_object map.now shown.now) (string_bytes text)) }
+        IsJsonLine (shown_object (map_shown on.now) shown.now) (string_bytes text)) }
 {
-    let text = to_json_line(alloc, &OnMap { map }, shown)?;
+    let text = to_json_line(on.alloc, on, shown)?;
     Ok(text)
 }

@@ -9,7 +9,7 @@
 //! - [`finding`]: [`likely_places`], all of this from layers to places.
 //! - [`showing`]: places as they are shown, in either order, in detail or not.
 //! - [`asking`]: [`places_asked`], places as they are asked for.
-//! - [`json`], [`text`]: their JSON and their text.
+//! - [`json`], [`text`]: their JSON and their text; [`geojson`]: as features of GeoJSON.
 //!
 //! Beside them, [`likely_laws`] says that the likeliest place is shown first, and what `cut` means;
 //! [`one_answer`], that what is asked has one text and one JSON.
@@ -18,6 +18,7 @@
 mod answer;
 mod asking;
 mod finding;
+mod geojson;
 mod json;
 mod likely_laws;
 mod one_answer;
@@ -29,6 +30,7 @@ mod text;
 pub use answer::LikelyPlaces;
 pub use asking::{PlaceOrder, places_asked};
 pub use finding::likely_places;
+pub use geojson::shown_geojson;
 pub use json::shown_json;
 pub use likely_laws::{likeliest_is_first, none_is_missing};
 pub use one_answer::one_shown;

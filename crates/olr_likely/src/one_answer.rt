@@ -1,6 +1,6 @@
 //! The law that what is asked is one thing, with no code: it is the contract of an empty function.
 
-ghost use Rattle.olr_likely.specs.OneAnswer.{LawsBelow, OneJson, OneText};
+ghost use Rattle.olr_likely.specs.OneAnswer.{LawsBelow, OneGeoJson, OneJson, OneText};
 
 use olr_detail::one_detail;
 use olr_keys::one_list;
@@ -13,13 +13,14 @@ fn laws_below()
     one_detail();
 }
 
-/// Places as they are asked for ([`crate::places_asked`]) have one text and one JSON: those of a
-/// reference on a map, by its layers there, by the limits and the order, and whether in detail. It is
-/// a premise that looking at the matchings gives one value, as `one_looking` of `olr_places_laws`
-/// says.
+/// Places as they are asked for ([`crate::places_asked`]) have one text, one JSON and one GeoJSON:
+/// those of a reference on a map, by its layers there, by the limits and the order, and whether in
+/// detail. It is a premise that looking at the matchings gives one value, as `one_looking` of
+/// `olr_places_laws` says.
 pub fn one_shown()
     ensures text { OneText }
     ensures json { OneJson }
+    ensures geojson { OneGeoJson }
 {
     laws_below();
 }

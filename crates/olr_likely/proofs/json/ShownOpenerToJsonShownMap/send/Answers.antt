@@ -1,4 +1,4 @@
-use Rattle.olr_likely.proofs.json.ShownOpenerToJsonOnMap.send.Goals as goal
+use Rattle.olr_likely.proofs.json.ShownOpenerToJsonShownMap.send.Goals as goal
 
 pub returns-in-Some : goal.returns-in-Some
 returns-in-Some g c = rw (c.in-Some.is, ← c.location.ensures, ← c.deref.ensures.value) c.send.ensures

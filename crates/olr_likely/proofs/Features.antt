@@ -1,0 +1,27 @@
+-- Texts of features, which are added one by one.
+use Rattle.std.proofs.Common.{◌≡◌, ◌≢◌, ◌+◌, ◌++◌, ◌<◌, ◌∷◌, ◌∙◌, ℕ, List, ap, drop, get_or, length, map, sym}
+use Rattle.std.proofs.lemmas.List.{append_assoc, drop_more}
+use Rattle.std.specs.Prelude.{codes}
+use Rattle.serde_json.specs.Data.{Data, Members, member, no_members}
+use Rattle.olr_geojson.specs.Joined.{behind_commas}
+
+-- an object with a member isn't empty
+pub not_empty : (name : List ℕ) (value : Data) (others : Members)
+    → member name value others ≢ no_members
+not_empty name value others same = absurd cc
+
+-- what is written, once one more is there, makes up the whole with those that are left
+pub one_more : {A B : Type 0} (feature : A → B) (text : B → List ℕ) (list : List A) (index : ℕ)
+    (a : A) (before after all : List ℕ) → index < length list → a ≡ get_or list index a
+    → after ≡ before ++ codes "," ++ text (feature a)
+    → before ++ behind_commas text (map feature (drop index list)) ≡ all
+    → after ++ behind_commas text (map feature (drop (index + 1) list)) ≡ all
+one_more feature text list index a before after all inside at grown so_far =
+    let rest = behind_commas text (map feature (drop (index + 1) list)) in
+    let dropped : drop index list ≡ a ∷ drop (index + 1) list =
+    cc (drop_more list index a inside) in
+    ap (λ l. l ++ rest) grown
+    ∙ append_assoc (before ++ codes ",") (text (feature a)) rest
+    ∙ append_assoc before (codes ",") (text (feature a) ++ rest)
+    ∙ sym (ap (λ l. before ++ behind_commas text (map feature l)) dropped)
+    ∙ so_far
