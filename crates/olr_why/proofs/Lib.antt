@@ -15,6 +15,7 @@ pub mod OneVerdict
 pub mod Ends
 pub mod Lacking
 pub mod AllReasons
+pub mod NearLines
 mod OneLegs
 mod OneRemedies
 mod OneWhy

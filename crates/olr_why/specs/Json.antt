@@ -1,9 +1,11 @@
 -- The JSON of why a reference has no matching, or that it has one, as a value: each member of an
 -- object under its name, in the order of the names. All numbers are whole; distances are in
--- centimetres, positions and lengths in decimetres.
-use Rattle.std.specs.Prelude.{ℕ, Bool, List, [], ◌∷◌, ◌++◌, Option, None, Some, codes, if◌then◌else◌}
-use Rattle.serde_json.specs.Data.{Data, string, object, no_members, member}
-use Rattle.olr_text.specs.JsonValues.{array_of, or_null, whole, whole_or_null}
+-- centimetres, positions and lengths in decimetres, and coordinates in microdegrees.
+use Rattle.std.specs.Prelude.{ℕ, Bool, List, [], ◌∷◌, ◌++◌, Option, None, Some, codes, if◌then◌else◌, option_map}
+use Rattle.serde_json.specs.Data.{Data, string, Members, object, no_members, member}
+use Rattle.olr_base.specs.Coordinates.{Coordinates}
+use Rattle.olr_shape.specs.Position.{spot_on}
+use Rattle.olr_text.specs.JsonValues.{array_of, coordinates_array, maybe_member, or_null, whole, whole_or_null}
 use Rattle.olr_candidates.specs.declared.near.FailedConditions.{FailedConditions}
 use Rattle.olr_candidates.specs.Tolerances.{tolerance_name}
 use Rattle.olr_why.specs.Common.{KeyValue, NearLine, RoadMap}
@@ -32,9 +34,10 @@ failed_conditions failed = words_if failed.radius (codes "radius")
     ++ words_if failed.bearing (codes "bearing") ++ words_if failed.class (codes "class")
     ++ words_if failed.end (codes "end")
 
--- a line near a point, with the class, the form and the id of the line
-abbrev pub near_value : ℕ → ℕ → ℕ → NearLine → Data
-near_value class form line near = object (
+-- a line near a point, with the class, the form and the id of the line, and with a spot where
+-- there is one
+abbrev pub near_members : ℕ → ℕ → ℕ → Option Data → NearLine → Members
+near_members class form line spot near =
     member (codes "at") (whole near.at) (
     member (codes "class") (whole class) (
     member (codes "distance") (whole near.distance) (
@@ -42,18 +45,25 @@ near_value class form line near = object (
     member (codes "line") (whole line) (
     member (codes "not") (array_of string (failed_conditions near.failed)) (
     member (codes "penalty") (whole_or_null near.penalty) (
-    member (codes "sector") (whole_or_null near.sector) no_members))))))))
+    member (codes "sector") (whole_or_null near.sector) (
+    maybe_member (codes "spot") spot no_members))))))))
 
--- a line near a point of a map
-abbrev pub near_object : RoadMap → NearLine → Data
-near_object road near =
-    near_value (class_at road near.line) (form_at road near.line) (id_at road near.line) near
+-- the spot of the place on a line that is nearest to a point, where spots are asked for
+abbrev pub spot_if : RoadMap → Bool → NearLine → Option Coordinates
+spot_if road spots near =
+    if spots then spot_on road (record { line = near.line; at = near.at }) else None
+
+-- a line near a point of a map, with its spot where spots are asked for
+abbrev pub near_object : RoadMap → Bool → NearLine → Data
+near_object road spots near = object (near_members (class_at road near.line)
+    (form_at road near.line) (id_at road near.line)
+    (option_map coordinates_array (spot_if road spots near)) near)
 
 -- a point: how many candidates it has, null for more than 64, and the lines nearest to it
-abbrev pub point_object : RoadMap → PointReason → Data
-point_object road point = object (
+abbrev pub point_object : RoadMap → Bool → PointReason → Data
+point_object road spots point = object (
     member (codes "candidates") (whole_or_null point.candidates) (
-    member (codes "nearest") (array_of (near_object road) point.nearest) no_members))
+    member (codes "nearest") (array_of (near_object road spots) point.nearest) no_members))
 
 -- ---- legs
 
@@ -109,10 +119,10 @@ verdict_object verdict = object (
     member (codes "at") (whole_or_null (number_of verdict)) (
     member (codes "word") (string (verdict_word verdict)) no_members))
 
--- all of it
-abbrev pub why_object : RoadMap → WhyValue → Data
-why_object road why = object (
+-- all of it, with the spots of near lines where they are asked for
+abbrev pub why_object : RoadMap → Bool → WhyValue → Data
+why_object road spots why = object (
     member (codes "legs") (array_of leg_object why.legs) (
-    member (codes "points") (array_of (point_object road) why.points) (
+    member (codes "points") (array_of (point_object road spots) why.points) (
     member (codes "remedies") (array_of remedy_object why.remedies) (
     member (codes "verdict") (verdict_object why.verdict) no_members))))

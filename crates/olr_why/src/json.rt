@@ -1,13 +1,14 @@
 //! The JSON of why a reference has no matching.
 
-ghost use Rattle.std.specs.Prelude.{◌≡◌, ◌++◌, ◌+◌, ◌<◌, ◌≤◌, IfOk, OnOk, length, map, string_bytes};
+ghost use Rattle.std.specs.Prelude.{◌≡◌, ◌++◌, ◌+◌, ◌<◌, ◌≤◌, IfOk, OnOk, length, map, option_map, string_bytes};
 ghost use Rattle.serde_json.specs.Data.{Data, string};
+ghost use Rattle.olr_base.specs.Coordinates.{coordinates_of};
 ghost use Rattle.olr_keys.specs.Cursor.{key_text};
 ghost use Rattle.olr_text.specs.JsonValues.{IsJsonLine, array_of};
 ghost use Rattle.olr_text.specs.Sent.{Sends};
 ghost use Rattle.olr_why.specs.Reasons.{why_value};
 ghost use Rattle.olr_why.specs.Json.{better_object, failed_conditions, leg_object, near_object, option_of, pair_object};
-ghost use Rattle.olr_why.specs.Json.{point_object, remedy_object, value_in, verdict_object, why_object, words_if};
+ghost use Rattle.olr_why.specs.Json.{point_object, remedy_object, spot_if, value_in, verdict_object, why_object, words_if};
 
 use crate::leg::LegReason;
 use crate::on_map::{OnMap, shown_line};
@@ -17,10 +18,11 @@ use crate::remedy::{Change, Remedy};
 use crate::verdict::Verdict;
 use crate::why::Why;
 use arrayvec::ArrayVec;
-use olr_base::NoMemory;
+use olr_base::{Degrees, NoMemory};
 use olr_candidates::{FailedConditions, NearLine};
 use olr_keys::{Cursor, Key};
-use olr_road::Map;
+use olr_road::{Map, Place};
+use olr_shape::spot_on;
 use olr_text::{ToJson, send_object, to_json_line};
 use serde::Serializer;
 use std::alloc::Global;
@@ -58,12 +60,30 @@ impl ToJson<OnMap<'_>> for FailedConditions {
     }
 }
 
+/// The spot of the place on a line that is nearest to a point, where spots are asked for.
+fn spot_if(on: &OnMap<'_>, near: &NearLine) -> Option<Degrees>
+    ensures { option_map coordinates_of result ≡ spot_if on.now.map.now on.now.spots near.now }
+{
+    if on.spots {
+        spot_on(
+            on.map,
+            Place {
+                line: near.line,
+                at: near.at,
+            },
+        )
+    } else {
+        None
+    }
+}
+
 /// The object of a line near a point.
 impl ToJson<OnMap<'_>> for NearLine {
-    ghost value = { λ on. near_object on.map.now };
+    ghost value = { λ on. near_object on.map.now on.spots };
 
     fn send<S: Serializer>(&self, on: &OnMap<'_>, out: &mut S) -> Result<(), S::Error> {
         let (class, form, line) = shown_line(on.map, self.line);
+        let spot = spot_if(on, self);
         send_object!(on, out, {
             "at": self.at,
             "class": class,
@@ -73,13 +93,14 @@ impl ToJson<OnMap<'_>> for NearLine {
             "not": self.failed,
             "penalty": self.penalty,
             "sector": self.sector,
+            "spot"?: spot,
         })
     }
 }
 
 /// The object of a point.
 impl ToJson<OnMap<'_>> for PointReason {
-    ghost value = { λ on. point_object on.map.now };
+    ghost value = { λ on. point_object on.map.now on.spots };
 
     fn send<S: Serializer>(&self, on: &OnMap<'_>, out: &mut S) -> Result<(), S::Error> {
         send_object!(on, out, { "candidates": self.candidates, "nearest": self.nearest })
@@ -180,7 +201,7 @@ impl ToJson<OnMap<'_>> for Verdict {
 
 /// The object of why a reference has no matching.
 impl ToJson<OnMap<'_>> for Why {
-    ghost value = { λ on why. why_object on.map.now (why_value why) };
+    ghost value = { λ on why. why_object on.map.now on.spots (why_value why) };
 
     fn send<S: Serializer>(&self, on: &OnMap<'_>, out: &mut S) -> Result<(), S::Error> {
         send_object!(on, out, {
@@ -197,16 +218,18 @@ impl ToJson<OnMap<'_>> for Why {
 /// pairs that it `admits`, its `class` limit, the lengths `from` and `to` that it admits, `of` how
 /// many pairs, and its `pairs`; the `points`, each with the number of its `candidates`, null for
 /// more than 64, and its `nearest` lines; the `remedies`, each with the `option`, its `value` and
-/// the cursor of the `matching`; and the `verdict`, with the number `at` and its `word`.
+/// the cursor of the `matching`; and the `verdict`, with the number `at` and its `word`. Where
+/// `spots` are asked for, each of the nearest lines has the `spot` of its place, `[lon, lat]` in
+/// microdegrees.
 ///
 /// # Errors
 ///
 /// [`NoMemory`] where the allocator refused memory.
 #[tactic(auto, using(olr_text::proofs::Nesting::items_nest, olr_text::proofs::Nesting::option_nests))]
-pub fn why_json(alloc: Global, map: &Map, why: &Why) -> Result<String, NoMemory>
+pub fn why_json(alloc: Global, map: &Map, why: &Why, spots: bool) -> Result<String, NoMemory>
     ensures { IfOk result (λ text.
-        IsJsonLine (why_object map.now (why_value why.now)) (string_bytes text)) }
+        IsJsonLine (why_object map.now spots (why_value why.now)) (string_bytes text)) }
 {
-    let text = to_json_line(alloc, &OnMap { map }, why)?;
+    let text = to_json_line(alloc, &OnMap { map, spots }, why)?;
     Ok(text)
 }

@@ -6,10 +6,11 @@ ghost use Rattle.olr_why.specs.Text.{class_at, form_at};
 
 use olr_road::Map;
 
-/// What is shown lies on a map.
+/// What is shown lies on a map, and where in coordinates, if `spots` are asked for.
 #[derive(Clone, Copy)]
 pub(crate) struct OnMap<'a> {
     pub(crate) map: &'a Map,
+    pub(crate) spots: bool,
 }
 
 /// The class, the form and the id of the line of a rank; each 0 where the map has no such line.

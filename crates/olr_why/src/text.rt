@@ -178,7 +178,7 @@ impl<On> ToText<On> for Remedy {
 pub fn why_text(alloc: Global, map: &Map, why: &Why) -> Result<String, NoMemory>
     ensures { IfOk result (λ text. string_bytes text ≡ why_text map.now (why_value why.now)) }
 {
-    let on = OnMap { map };
+    let on = OnMap { map, spots: false };
     let mut text = String::new(alloc);
     push_texts(&why.points, &on, &mut text)?;
     push_texts(&why.legs, &on, &mut text)?;
