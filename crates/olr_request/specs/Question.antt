@@ -13,26 +13,31 @@ use Rattle.olr_request.specs.declared.request.Request.TheVariants as request
 
 -- the request, with these pages where it asks for matchings
 abbrev pub request_for : QuestionKind → Tolerances → Bor (List ℕ) → Pages → Format → Request
-request_for (Candidates detail) tolerances text pages format =
-    request.Candidates text tolerances detail format
-request_for (Match size detail) tolerances text pages format = request.Match (record {
+request_for (Candidates extras) tolerances text pages format =
+    request.Candidates text tolerances extras format
+request_for (Match size extras) tolerances text pages format = request.Match (record {
   text = text;
   tolerances = tolerances;
   size = size;
   pages = pages;
-  detail = detail;
+  extras = extras;
   format = format;
 })
-request_for (Places limits order detail) tolerances text pages format = request.Places (record {
+request_for (Places limits order extras) tolerances text pages format = request.Places (record {
   text = text;
   tolerances = tolerances;
   limits = limits;
   order = order;
-  detail = detail;
+  extras = extras;
   format = format;
 })
-request_for (Why nearest) tolerances text pages format = request.Why
-    (record { text = text; tolerances = tolerances; nearest = nearest; format = format })
+request_for (Why nearest shape) tolerances text pages format = request.Why (record {
+  text = text;
+  tolerances = tolerances;
+  nearest = nearest;
+  shape = shape;
+  format = format;
+})
 
 -- The request by which a run is asked for the same of a text alone, as JSON: of matchings the first
 -- page.

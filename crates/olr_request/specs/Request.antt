@@ -14,7 +14,7 @@ ReadsMap other = ⊤
 -- the text of its reference
 abbrev pub text_of : Request → List ℕ
 text_of (Show text format) = text.now
-text_of (Candidates text tolerances detail format) = text.now
+text_of (Candidates text tolerances extras format) = text.now
 text_of (Match asked) = asked.text.now
 text_of (Places asked) = asked.text.now
 text_of (Why asked) = asked.text.now

@@ -11,4 +11,4 @@ mod request;
 
 pub use fault::Fault;
 pub use question::{Question, QuestionKind};
-pub use request::{Format, MatchRequest, Pages, PlacesRequest, Request, WhyRequest};
+pub use request::{Extras, Format, MatchRequest, Pages, PlacesRequest, Request, WhyRequest};

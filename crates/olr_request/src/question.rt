@@ -3,7 +3,7 @@
 ghost use Rattle.std.specs.Prelude.{◌≡◌};
 ghost use Rattle.olr_request.specs.Question.{request_for};
 
-use crate::request::{Format, MatchRequest, Pages, PlacesRequest, Request, WhyRequest};
+use crate::request::{Extras, Format, MatchRequest, Pages, PlacesRequest, Request, WhyRequest};
 use olr_candidates::Tolerances;
 use olr_keys::PageSize;
 use olr_likely::PlaceOrder;
@@ -15,15 +15,15 @@ use olr_why::NearestCount;
 pub enum QuestionKind {
     /// The candidates of each of its points.
     Candidates {
-        /// Whether each is told in detail: the parts of its penalty and what they come from.
-        detail: bool,
+        /// What is shown of each.
+        extras: Extras,
     },
     /// Its matchings.
     Match {
         /// How many matchings a page has at most.
         size: PageSize,
-        /// Whether each is told in detail: the parts of its penalties and what they come from.
-        detail: bool,
+        /// What is shown of each.
+        extras: Extras,
     },
     /// Its places, and whether its match is unique.
     Places {
@@ -31,12 +31,16 @@ pub enum QuestionKind {
         limits: PlaceLimits,
         /// In which order they are shown.
         order: PlaceOrder,
-        /// Whether each is told in detail: the parts of its penalties and what they come from.
-        detail: bool,
+        /// What is shown of each.
+        extras: Extras,
     },
-    /// Why it has no matching and what would help, with so many of the lines nearest to each point
-    /// at most.
-    Why(NearestCount),
+    /// Why it has no matching and what would help.
+    Why {
+        /// How many of the lines nearest to each point are shown at most.
+        nearest: NearestCount,
+        /// Whether their coordinates are shown, in microdegrees.
+        shape: bool,
+    },
 }
 
 /// A question about a reference on a map, whichever reference it is.
@@ -57,36 +61,37 @@ impl Question {
     {
         let tolerances = self.tolerances;
         match self.what {
-            QuestionKind::Candidates { detail } => Request::Candidates {
+            QuestionKind::Candidates { extras } => Request::Candidates {
                 text,
                 tolerances,
-                detail,
+                extras,
                 format,
             },
-            QuestionKind::Match { size, detail } => Request::Match(MatchRequest {
+            QuestionKind::Match { size, extras } => Request::Match(MatchRequest {
                 text,
                 tolerances,
                 size,
                 pages,
-                detail,
+                extras,
                 format,
             }),
             QuestionKind::Places {
                 limits,
                 order,
-                detail,
+                extras,
             } => Request::Places(PlacesRequest {
                 text,
                 tolerances,
                 limits,
                 order,
-                detail,
+                extras,
                 format,
             }),
-            QuestionKind::Why(nearest) => Request::Why(WhyRequest {
+            QuestionKind::Why { nearest, shape } => Request::Why(WhyRequest {
                 text,
                 tolerances,
                 nearest,
+                shape,
                 format,
             }),
         }

@@ -7,6 +7,7 @@ use olr_candidates::Tolerances;
 use olr_keys::PageSize;
 use olr_likely::PlaceOrder;
 use olr_places::PlaceLimits;
+use olr_report::RoutePart;
 use olr_why::NearestCount;
 
 /// Which pages of matchings are asked for.
@@ -25,6 +26,21 @@ pub enum Format {
     Text,
     /// As JSON, one compact object on a line.
     Json,
+    /// As GeoJSON, one compact object on a line. Only candidates, matchings and places have it: what
+    /// `show` and `why` print is JSON then.
+    GeoJson,
+}
+
+/// What is shown of each candidate, matching or place beside what always is.
+#[derive(Clone, Copy, Debug, PartialEq, Eq)]
+pub struct Extras {
+    /// Whether it is told in detail: the parts of its penalties and what they come from.
+    pub detail: bool,
+    /// Whether its coordinates are shown, in microdegrees. Text never shows them.
+    pub shape: bool,
+    /// Which part of its route is its geometry in GeoJSON. Other formats, and candidates, which have
+    /// no route, are the same whichever it is.
+    pub part: RoutePart,
 }
 
 /// What a request for matchings asks for.
@@ -38,8 +54,8 @@ pub struct MatchRequest<'a> {
     pub size: PageSize,
     /// Which pages are printed.
     pub pages: Pages<'a>,
-    /// Whether a page tells each matching in detail.
-    pub detail: bool,
+    /// What a page shows of each matching.
+    pub extras: Extras,
     /// How a page is printed.
     pub format: Format,
 }
@@ -55,8 +71,8 @@ pub struct PlacesRequest<'a> {
     pub limits: PlaceLimits,
     /// In which order the places are printed.
     pub order: PlaceOrder,
-    /// Whether each place is told in detail.
-    pub detail: bool,
+    /// What is shown of each place.
+    pub extras: Extras,
     /// How the places are printed.
     pub format: Format,
 }
@@ -70,6 +86,8 @@ pub struct WhyRequest<'a> {
     pub tolerances: Tolerances,
     /// How many of the lines nearest to each point are printed at most.
     pub nearest: NearestCount,
+    /// Whether their coordinates are shown, in microdegrees. Text never shows them.
+    pub shape: bool,
     /// How the reasons are printed.
     pub format: Format,
 }
@@ -90,8 +108,8 @@ pub enum Request<'a> {
         text: &'a str,
         /// How far a line may differ from what a point says.
         tolerances: Tolerances,
-        /// Whether each candidate is told in detail.
-        detail: bool,
+        /// What is shown of each candidate.
+        extras: Extras,
         /// How the candidates are printed.
         format: Format,
     },

@@ -53,17 +53,17 @@ module _ (words behind : List ℕ) (given : Given) (question : Question)
         numbers = its.by.options_given.numbers;
         order = its.by.options_given.order;
         nearest = its.by.options_given.nearest;
-        detail = its.by.options_given.detail;
+        extras = its.by.options_given.extras;
         after = its.by.options_given.after;
       };
       reference = refl;
       one_page = its.by.one_page;
-      json = its.by.json;
+      format = its.by.format;
     };
   }
 
   pub ask_of_each : IsQuestionWithoutCursor given (name_of (at_spaces words)) question
-      → AskOfEach words question
+      → AskOfEach words question given.format
   ask_of_each named text reference at = inr (
     parts (at_spaces words) (Some reference.now),
     inr (words, reference.now, at, refl),
@@ -81,7 +81,7 @@ module _ (words behind : List ℕ) (given : Given) (question : Question)
           };
           one_of_both = not_both given its.by.one_page;
           asks = λ k. request_for question.what question.tolerances reference
-              (sym (first_page given its.by.one_page named.3) k) (sym its.by.json k);
+              (sym (first_page given its.by.one_page named.3) k) given.format;
         },
       );
     },
@@ -91,13 +91,14 @@ module _ (words behind : List ℕ) (given : Given) (question : Question)
 pub ask_of_kept : (words : RecordWords) (given : Given) (question : Question) (name : List ℕ)
     → has_reference (parts_of words) ≡ false → texts words.words.items ≡ at_spaces words.text.now
     → IsGivenBy (parts_of words) given → name ≡ name_of (texts words.words.items)
-    → IsQuestionWithoutCursor given name question → AskOfEach words.text.now question
+    → IsQuestionWithoutCursor given name question → AskOfEach words.text.now question given.format
 ask_of_kept words given question name among split its begins named =
     go (parts_of words).reference among
     (subst (λ ws. IsGivenBy (parts ws (parts_of words).reference) given) split its)
   where
     go : (behind : Option (List ℕ)) → not (is_some behind) ≡ false
-        → IsGivenBy (parts (at_spaces words.text.now) behind) given → AskOfEach words.text.now question
+        → IsGivenBy (parts (at_spaces words.text.now) behind) given
+        → AskOfEach words.text.now question given.format
     go None there given_by = cc
     go (Some behind) there given_by = ask_of_each words.text.now behind given question given_by
         (subst (λ n. IsQuestionWithoutCursor given n question) (begins ∙ ap name_of split) named)

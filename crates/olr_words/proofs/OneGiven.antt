@@ -1,13 +1,18 @@
 -- What words give is one, but for where its texts lie in memory.
 use mathlib.Core.Path.{fun_ext}
-use Rattle.std.proofs.Common.{◌≡◌, ◌∙◌, ap, sym, refl, ℕ, Bor, false, List, Option, Some, None, cond}
-use Rattle.std.specs.Prelude.{option_map, unwrap_or}
+use Rattle.std.proofs.Common.{◌≡◌, ◌∙◌, ap, sym, refl, arith, ℕ, Bor, false, List, [], Option, Some, None, cond, get_or}
+use Rattle.std.specs.Prelude.{codes, option_map, unwrap_or}
 use Rattle.std.specs.Bool.{one_answer}
 use Rattle.olr_request.specs.Request.{at_bytes, bytes_of}
 use Rattle.olr_request.specs.declared.request.Pages.TheVariants as pages
 use Rattle.olr_likely.specs.declared.asking.PlaceOrder.{PlaceOrder}
 use Rattle.olr_likely.specs.declared.asking.PlaceOrder.TheVariants.{Likely, Total}
-use Rattle.olr_words.specs.Given.{IsNumberOf, IsOrderNamed, IsProfileNamed}
+use Rattle.olr_report.specs.declared.route_part.RoutePart.{RoutePart}
+use Rattle.olr_report.specs.declared.route_part.RoutePart.TheVariants.{Inner, Outer, Route}
+use Rattle.olr_request.specs.declared.request.Extras.{Extras}
+use Rattle.olr_request.specs.declared.request.Format.{Format}
+use Rattle.olr_request.specs.declared.request.Format.TheVariants.{GeoJson, Json, Text}
+use Rattle.olr_words.specs.Given.{IsFormatNamed, IsNumberOf, IsOrderNamed, IsPartNamed, IsProfileNamed, IsRecordFormatNamed, record_format}
 use Rattle.olr_words.specs.OneRequest.{placeless_pages}
 use Rattle.olr_words.specs.Options.{RecordOption}
 use Rattle.olr_words.specs.Profile.{profile_value}
@@ -41,6 +46,51 @@ one_order name Likely Total is other = absurd (other is)
 one_order name Total Likely is other = absurd (is other)
 one_order name Total Total is other = refl
 
+-- the first byte of a name, or 0
+first_byte : Option (List ℕ) → ℕ
+first_byte name = get_or (unwrap_or name []) 0 0
+
+not_both_parts : (name : Option (List ℕ)) → name ≡ Some (codes "route")
+    → name ≡ Some (codes "inner") → ⊥
+unfolding first_byte
+not_both_parts name is other =
+    let same : ◌≡◌ {A = ℕ} 114 105 = ap first_byte (sym is ∙ other) in omega arith
+
+one_part : (name : Option (List ℕ)) (a b : RoutePart) → IsPartNamed name a → IsPartNamed name b
+    → a ≡ b
+one_part name Route Route is other = refl
+one_part name Route Inner is other = absurd (not_both_parts name is other)
+one_part name Route Outer is other = absurd (other.0 is)
+one_part name Inner Route is other = absurd (not_both_parts name other is)
+one_part name Inner Inner is other = refl
+one_part name Inner Outer is other = absurd (other.1 is)
+one_part name Outer Route is other = absurd (is.0 other)
+one_part name Outer Inner is other = absurd (is.1 other)
+one_part name Outer Outer is other = refl
+
+same_extras : (a b : Extras) → a.detail ≡ b.detail → a.shape ≡ b.shape → a.part ≡ b.part → a ≡ b
+same_extras a b detail shape part =
+    λ k. record { detail = detail k; shape = shape k; part = part k }
+
+one_format : (name : Option (List ℕ)) (a b : Format) → IsRecordFormatNamed name a
+    → IsRecordFormatNamed name b → a ≡ b
+one_format name Json Json is other = refl
+one_format name Json GeoJson is other = absurd (is other)
+one_format name Json Text is other = absurd other
+one_format name GeoJson Json is other = absurd (other is)
+one_format name GeoJson GeoJson is other = refl
+one_format name GeoJson Text is other = absurd other
+one_format name Text b is other = absurd is
+
+-- the format of the answer to a record
+pub in_record : (name : Option (List ℕ)) (format : Format) → IsFormatNamed name format
+    → IsRecordFormatNamed name (record_format format)
+unfolding first_byte
+in_record name Json is =
+    λ other. let same : ◌≡◌ {A = ℕ} 106 103 = ap first_byte (sym is ∙ other) in omega arith
+in_record name GeoJson is = is
+in_record name Text is = is.1
+
 -- the same values, texts and pages
 pub record Alike (g h : Given) : Type 0 where
   pub values : value_of g ≡ value_of h
@@ -48,7 +98,7 @@ pub record Alike (g h : Given) : Type 0 where
   pub page : g.page ≡ h.page
   pub order : g.order ≡ h.order
   pub nearest : g.nearest ≡ h.nearest
-  pub detail : g.detail ≡ h.detail
+  pub extras : g.extras ≡ h.extras
   pub pages : placeless_pages (pages_of g) ≡ placeless_pages (pages_of h)
   pub text : g.text.now ≡ h.text.now
   pub format : g.format ≡ h.format
@@ -87,11 +137,13 @@ alike options its g h by other =
       page = one_number _ _ _ is.page too.page;
       order = one_order _ _ _ is.order too.order;
       nearest = one_number _ _ _ is.nearest too.nearest;
-      detail = one_answer _ _ is.detail too.detail;
+      extras = same_extras g.extras h.extras (one_answer _ _ is.extras.detail too.extras.detail)
+          (one_answer _ _ is.extras.shape too.extras.shape)
+          (one_part _ _ _ is.extras.part too.extras.part);
       pages = one_page_of g by.one_page ∙ (ap (λ t. pages.One (option_map at_bytes t))
           (is.after ∙ sym too.after) ∙ sym (one_page_of h other.one_page));
       text = by.reference ∙ sym other.reference;
-      format = by.json ∙ sym other.json;
+      format = one_format _ _ _ by.format other.format;
       one_page = by.one_page;
       one_page_too = other.one_page;
     }

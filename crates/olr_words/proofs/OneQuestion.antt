@@ -116,17 +116,17 @@ one_tolerances g h alike a b is other = same_tolerances a b
 pub one_what : (g h : Given) → Alike g h → (kind : MapSubcommand) (a b : QuestionKind)
     → IsWhat g kind a → IsWhat h kind b → a ≡ b
 one_what g h alike each.Candidates a b is other =
-    is ∙ (ap (λ detail. Candidates detail) alike.detail ∙ sym other)
+    is ∙ (ap (λ extras. Candidates extras) alike.extras ∙ sym other)
 one_what g h alike each.Match a b is other = is.0
-    ∙ ((λ k. Match (unwrap_or (alike.page k) 10) (alike.detail k)) ∙ sym other.0)
+    ∙ ((λ k. Match (unwrap_or (alike.page k) 10) (alike.extras k)) ∙ sym other.0)
 one_what g h alike each.Places a b is other =
     let limits : is.0 ≡ other.0 = same_limits is.0 other.0 (λ number.
     limits_are g.numbers is.0 is.1 number
     ∙ (ap (λ numbers. number_of numbers number) alike.numbers
     ∙ sym (limits_are h.numbers other.0 other.1 number))) in
-    is.2 ∙ ((λ k. Places (limits k) (alike.order k) (alike.detail k)) ∙ sym other.2)
-one_what g h alike each.Why a b is other =
-    is.0 ∙ (ap (λ nearest. Why (unwrap_or nearest 8)) alike.nearest ∙ sym other.0)
+    is.2 ∙ ((λ k. Places (limits k) (alike.order k) (alike.extras k)) ∙ sym other.2)
+one_what g h alike each.Why a b is other = is.0
+    ∙ ((λ k. Why (unwrap_or (alike.nearest k) 8) (alike.extras k).shape) ∙ sym other.0)
 
 -- ---- why it is refused
 

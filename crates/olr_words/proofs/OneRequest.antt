@@ -85,10 +85,10 @@ not_show name kind show is =
 placeless_for : (what : QuestionKind) (tolerances : Tolerances) (text : Bor (List ℕ)) (pages : Pages)
     (format : Format) → placeless (request_for what tolerances text pages format)
     ≡ request_for what tolerances (at_bytes text.now) (placeless_pages pages) format
-placeless_for (Candidates detail) tolerances text pages format = refl
-placeless_for (Match size detail) tolerances text pages format = refl
-placeless_for (Places limits order detail) tolerances text pages format = refl
-placeless_for (Why nearest) tolerances text pages format = refl
+placeless_for (Candidates extras) tolerances text pages format = refl
+placeless_for (Match size extras) tolerances text pages format = refl
+placeless_for (Places limits order extras) tolerances text pages format = refl
+placeless_for (Why nearest shape) tolerances text pages format = refl
 
 one_request_for : (g h : Given) → Alike g h → (kind : MapSubcommand) (a b : Request)
     → IsRequest g kind a → IsRequest h kind b → placeless a ≡ placeless b

@@ -7,9 +7,8 @@ use Rattle.clap.specs.Words.{first_value, found_of}
 use Rattle.clap.specs.declared.parser.matches.ArgMatches.{ArgMatches}
 use Rattle.olr_request.specs.declared.fault.Fault.{Fault}
 use Rattle.olr_request.specs.declared.fault.Fault.TheVariants as fault
-use Rattle.olr_request.specs.declared.request.Format.TheVariants.{Json}
 use Rattle.olr_request.specs.declared.request.Request.{Request}
-use Rattle.olr_words.specs.Given.{IsGiven}
+use Rattle.olr_words.specs.Given.{IsFormatNamed, IsGiven, IsRecordFormatNamed, record_format}
 use Rattle.olr_words.specs.Options.{RecordOption, options_named, options_of, subcommands}
 use Rattle.olr_words.specs.Found.{IsFoundIn}
 use Rattle.olr_words.specs.Record.{AskFor, IsGivenBy, IsOfSubcommand, IsRequestOfWords, name_of}
@@ -20,6 +19,7 @@ use Rattle.olr_words.specs.declared.words.Given.{Given}
 use Rattle.olr_words.specs.declared.words.MapSubcommand.{MapSubcommand}
 use Rattle.olr_words.specs.declared.words.MapSubcommand.TheVariants as each
 use Rattle.olr_words.proofs.Faults.{texts_found}
+use Rattle.olr_words.proofs.OneGiven.{in_record}
 
 -- ---- the subcommand
 
@@ -60,7 +60,8 @@ has_subcommand name options is not_that none = elim (has_row subcommands name op
 -- ---- what is given
 
 given_alike : (text_of : List ℕ → Option (List ℕ)) (read given : Given) → IsGiven text_of read
-    → given ≡ record read { all = false; format = Json } → IsGiven text_of given
+    → given ≡ record read { all = false; format = record_format read.format }
+    → IsGiven text_of given
 given_alike text_of read given is same = subst (IsGiven text_of) (sym same) (record {
   profile = is.profile;
   tolerances = is.tolerances;
@@ -68,17 +69,24 @@ given_alike text_of read given is same = subst (IsGiven text_of) (sym same) (rec
   numbers = is.numbers;
   order = is.order;
   nearest = is.nearest;
-  detail = is.detail;
+  extras = is.extras;
   after = is.after;
 })
 
+format_alike : (name : Option (List ℕ)) (read given : Given) → IsFormatNamed name read.format
+    → given ≡ record read { all = false; format = record_format read.format }
+    → IsRecordFormatNamed name given.format
+format_alike name read given is same = subst (IsRecordFormatNamed name)
+    (sym (ap (λ (g : Given). g.format) same)) (in_record name read.format is)
+
 pub given_by : (its : Parts) (m : ArgMatches) (f : IsFoundIn its m) (read given : Given)
     → IsGiven (first_value (found_of m)) read
-    → given ≡ record read { all = false; format = Json }
+    → IsFormatNamed (first_value (found_of m) (codes "format")) read.format
+    → given ≡ record read { all = false; format = record_format read.format }
     → read.text.now ≡ unwrap_or its.reference
     (unwrap_or (first_value (found_of m) (codes "REF")) [])
     → IsGivenBy its given
-given_by its m f read given is same text =
+given_by its m f read given is named same text =
     let texts = texts_found its m f in
     record {
       options = f.options;
@@ -89,7 +97,8 @@ given_by its m f read given is same text =
         reference = ap (λ (g : Given). g.text.now) same
             ∙ (text ∙ ap (λ t. unwrap_or its.reference (unwrap_or (t (codes "REF")) [])) texts);
         one_page = ap (λ (g : Given). g.all) same;
-        json = ap (λ (g : Given). g.format) same;
+        format = subst (λ t. IsRecordFormatNamed (t (codes "format")) given.format) texts
+            (format_alike (first_value (found_of m) (codes "format")) read given named same);
       };
     }
 

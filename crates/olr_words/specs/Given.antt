@@ -5,8 +5,11 @@ use Rattle.olr_candidates.specs.Tolerances.{order_of, tolerance_name}
 use Rattle.olr_candidates.specs.declared.tolerances.Tolerance.{Tolerance}
 use Rattle.olr_likely.specs.declared.asking.PlaceOrder.{PlaceOrder}
 use Rattle.olr_likely.specs.declared.asking.PlaceOrder.TheVariants.{Likely, Total}
+use Rattle.olr_report.specs.declared.route_part.RoutePart.{RoutePart}
+use Rattle.olr_report.specs.declared.route_part.RoutePart.TheVariants.{Inner, Outer, Route}
+use Rattle.olr_request.specs.declared.request.Extras.{Extras}
 use Rattle.olr_request.specs.declared.request.Format.{Format}
-use Rattle.olr_request.specs.declared.request.Format.TheVariants.{Json, Text}
+use Rattle.olr_request.specs.declared.request.Format.TheVariants.{GeoJson, Json, Text}
 use Rattle.olr_words.specs.Options.{IsWholeNumber}
 use Rattle.olr_words.specs.declared.profile.Profile.{Profile}
 use Rattle.olr_words.specs.declared.profile.Profile.TheVariants.{Feed, Program}
@@ -30,10 +33,28 @@ abbrev pub IsOrderNamed : Option (List ℕ) → PlaceOrder → Type 0
 IsOrderNamed name Likely = name ≡ Some (codes "likely")
 IsOrderNamed name Total = name ≢ Some (codes "likely")
 
+-- the part of a route of a name
+abbrev pub IsPartNamed : Option (List ℕ) → RoutePart → Type 0
+IsPartNamed name Route = name ≡ Some (codes "route")
+IsPartNamed name Inner = name ≡ Some (codes "inner")
+IsPartNamed name Outer = (name ≢ Some (codes "route")) × (name ≢ Some (codes "inner"))
+
 -- the format of a name
 abbrev pub IsFormatNamed : Option (List ℕ) → Format → Type 0
 IsFormatNamed name Json = name ≡ Some (codes "json")
-IsFormatNamed name Text = name ≢ Some (codes "json")
+IsFormatNamed name GeoJson = name ≡ Some (codes "geojson")
+IsFormatNamed name Text = (name ≢ Some (codes "json")) × (name ≢ Some (codes "geojson"))
+
+-- the format of a name in a record, whose answer is never text
+abbrev pub IsRecordFormatNamed : Option (List ℕ) → Format → Type 0
+IsRecordFormatNamed name Json = name ≢ Some (codes "geojson")
+IsRecordFormatNamed name GeoJson = name ≡ Some (codes "geojson")
+IsRecordFormatNamed name Text = ⊥
+
+-- the format of the answer to a record, where the same words ask for this one on a command line
+abbrev pub record_format : Format → Format
+record_format Text = Json
+record_format other = other
 
 -- a flag is there: its text is `true`
 abbrev pub IsFlagOf : Option (List ℕ) → Bool → Type 0
@@ -52,6 +73,12 @@ module _ (text_of : List ℕ → Option (List ℕ)) where
     pub each : (name : Tolerance)
         → IsNumberOf (text_of (tolerance_name name)) (get_or numbers (order_of name) None)
 
+  -- what is shown of each candidate, matching or place
+  pub record AreExtras (extras : Extras) : Type 0 where
+    pub detail : IsFlagOf (text_of (codes "detail")) extras.detail
+    pub shape : IsFlagOf (text_of (codes "shape")) extras.shape
+    pub part : IsPartNamed (text_of (codes "part")) extras.part
+
   -- what is given, beside the text of the reference, all pages and the format
   pub record IsGiven (given : Given) : Type 0 where
     pub profile : IsProfileNamed (text_of (codes "profile")) given.profile
@@ -60,5 +87,5 @@ module _ (text_of : List ℕ → Option (List ℕ)) where
     pub numbers : AreNumbers given.numbers
     pub order : IsOrderNamed (text_of (codes "order")) given.order
     pub nearest : IsNumberOf (text_of (codes "nearest")) given.nearest
-    pub detail : IsFlagOf (text_of (codes "detail")) given.detail
+    pub extras : AreExtras given.extras
     pub after : option_map (λ cursor. cursor.now) given.after ≡ text_of (codes "after")

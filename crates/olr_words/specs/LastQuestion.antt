@@ -1,8 +1,10 @@
 -- The question that words before a reference ask.
 use Rattle.std.specs.Prelude.{◌≡◌, ℕ, List, None, Ok}
 use Rattle.std.specs.Borrow.{Bor}
-use Rattle.olr_request.specs.Question.{asked_alone}
+use Rattle.olr_request.specs.Question.{request_for}
 use Rattle.olr_request.specs.declared.question.Question.{Question}
+use Rattle.olr_request.specs.declared.request.Format.{Format}
+use Rattle.olr_request.specs.declared.request.Pages.TheVariants.{One}
 use Rattle.olr_words.specs.Record.{IsRequestOf}
 use Rattle.olr_words.specs.RecordWords.{IsAtDashes}
 use Rattle.olr_words.specs.Words.{IsNameOf, IsQuestion}
@@ -14,8 +16,10 @@ abbrev pub IsQuestionWithoutCursor : Given → List ℕ → Question → Type 0
 IsQuestionWithoutCursor given name question = (kind : MapSubcommand) × IsNameOf kind name
     × IsQuestion given kind question × (given.after ≡ None)
 
--- a text of these words, ` -- ` and any reference asks this question of that reference
-abbrev pub AskOfEach : List ℕ → Question → Type 0
-AskOfEach words question = (text : List ℕ) (reference : Bor (List ℕ))
+-- a text of these words, ` -- ` and any reference asks this question of that reference, to be
+-- answered in this format
+abbrev pub AskOfEach : List ℕ → Question → Format → Type 0
+AskOfEach words question format = (text : List ℕ) (reference : Bor (List ℕ))
     → IsAtDashes text words reference.now
-    → IsRequestOf text (Ok (asked_alone question.what question.tolerances reference))
+    → IsRequestOf text
+    (Ok (request_for question.what question.tolerances reference (One None) format))

@@ -17,8 +17,8 @@ placeless_pages (pages.One cursor) = pages.One (option_map (λ text. at_bytes te
 
 abbrev pub placeless : Request → Request
 placeless (Show text format) = Show (at_bytes text.now) format
-placeless (Candidates text tolerances detail format) =
-    Candidates (at_bytes text.now) tolerances detail format
+placeless (Candidates text tolerances extras format) =
+    Candidates (at_bytes text.now) tolerances extras format
 placeless (Match asked) = Match (record asked {
   text = at_bytes asked.text.now;
   pages = placeless_pages asked.pages;

@@ -1,5 +1,5 @@
 -- The options that the words of a record may have, and what each takes.
-use Rattle.std.specs.Prelude.{◌≡◌, ℕ, ◌^◌, ◌<◌, ⊤, List, [], ◌∷◌, ◌++◌, Option, codes, find}
+use Rattle.std.specs.Prelude.{ℕ, ◌^◌, ◌<◌, ⊤, List, [], ◌∷◌, ◌++◌, Option, codes, find}
 use Rattle.std.specs.Prelude.{option_map}
 use Rattle.std.specs.List.{Contains}
 use Rattle.std.specs.Str.{bytes_eq}
@@ -7,12 +7,11 @@ use Rattle.std.specs.Str.Parse.{IsNumeral, digits_value, without_leading_plus}
 
 -- ---- options
 
--- what an option takes: a whole number; one of some words; the word `json`, since an answer to a
--- record is JSON; the text of a cursor; or nothing, as a flag
+-- what an option takes: a whole number; one of some words; the text of a cursor; or nothing, as a
+-- flag
 pub data OptionValue : Type 0 where
   number : OptionValue
   one_of : List (List ℕ) → OptionValue
-  json : OptionValue
   cursor : OptionValue
   flag : OptionValue
 
@@ -31,7 +30,6 @@ IsWholeNumber text = IsNumeral 10 (without_leading_plus text)
 abbrev pub IsValue : OptionValue → List ℕ → Type 0
 IsValue number text = IsWholeNumber text
 IsValue (one_of words) text = Contains words text
-IsValue json text = text ≡ codes "json"
 IsValue cursor text = ⊤
 IsValue flag text = ⊤
 
@@ -43,11 +41,26 @@ option_named name value = record { name = name; value = value }
 abbrev pub number_named : List ℕ → RecordOption
 number_named name = option_named name number
 
-abbrev pub format_option : RecordOption
-format_option = option_named (codes "format") json
+abbrev pub flag_named : List ℕ → RecordOption
+flag_named name = option_named name flag
 
-abbrev pub detail_option : RecordOption
-detail_option = option_named (codes "detail") flag
+-- the format of an answer: it isn't text, since an answer to a record is an object of JSON
+abbrev pub json_option : RecordOption
+json_option = option_named (codes "format") (one_of (codes "json" ∷ []))
+
+abbrev pub json_or_geojson_option : RecordOption
+json_or_geojson_option =
+    option_named (codes "format") (one_of (codes "json" ∷ codes "geojson" ∷ []))
+
+-- what is shown of each candidate
+abbrev pub candidate_options : List RecordOption
+candidate_options =
+    flag_named (codes "detail") ∷ flag_named (codes "shape") ∷ json_or_geojson_option ∷ []
+
+-- what is shown of each matching or place
+abbrev pub matching_options : List RecordOption
+matching_options = flag_named (codes "detail") ∷ flag_named (codes "shape") ∷ json_or_geojson_option
+    ∷ option_named (codes "part") (one_of (codes "route" ∷ codes "outer" ∷ codes "inner" ∷ [])) ∷ []
 
 -- how a reference is matched
 abbrev pub tolerance_options : List RecordOption
@@ -64,15 +77,19 @@ place_options = number_named (codes "apart") ∷ number_named (codes "within")
 
 -- the subcommands that a record may name, each with its options in a record beside the reference
 abbrev pub subcommands : List (List ℕ × List RecordOption)
-subcommands = (codes "show", format_option ∷ [])
-    ∷ (codes "candidates", detail_option ∷ format_option ∷ tolerance_options)
+subcommands = (codes "show", json_option ∷ [])
+    ∷ (codes "candidates", candidate_options ++ tolerance_options)
     ∷ (
       codes "match",
       number_named (codes "page")
-          ∷ option_named (codes "after") cursor ∷ detail_option ∷ format_option ∷ tolerance_options,
+          ∷ option_named (codes "after") cursor ∷ matching_options ++ tolerance_options,
     )
-    ∷ (codes "places", place_options ++ detail_option ∷ format_option ∷ tolerance_options)
-    ∷ (codes "why", number_named (codes "nearest") ∷ format_option ∷ tolerance_options) ∷ []
+    ∷ (codes "places", place_options ++ matching_options ++ tolerance_options)
+    ∷ (
+      codes "why",
+      number_named (codes "nearest") ∷ flag_named (codes "shape") ∷ json_option ∷ tolerance_options,
+    )
+    ∷ []
 
 -- the options in the first row of a name
 abbrev pub options_named : List (List ℕ × List RecordOption) → List ℕ → Option (List RecordOption)

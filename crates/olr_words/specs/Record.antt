@@ -5,10 +5,9 @@ use Rattle.clap.specs.Walk.{texts}
 use Rattle.clap.specs.Words.{App, fault_of, first_of, matches_of}
 use Rattle.olr_request.specs.Fault.{fault_text}
 use Rattle.olr_request.specs.declared.fault.Fault.{Fault}
-use Rattle.olr_request.specs.declared.request.Format.TheVariants.{Json}
 use Rattle.olr_request.specs.declared.request.Request.{Request}
 use Rattle.olr_request.specs.declared.request.Request.TheVariants.{Show}
-use Rattle.olr_words.specs.Given.{IsGiven}
+use Rattle.olr_words.specs.Given.{IsGiven, IsRecordFormatNamed}
 use Rattle.olr_words.specs.Options.{IsValue, RecordOption, options_of}
 use Rattle.olr_words.specs.RecordCommand.{options_in, record_app}
 use Rattle.olr_words.specs.RecordWords.{ArePartsOf, Parts, parts}
@@ -85,7 +84,7 @@ pub record AreGivenBy (options : List RecordOption) (its : Parts) (given : Given
   pub options_given : IsGiven (text_in options its) given
   pub reference : given.text.now ≡ reference_of options its
   pub one_page : given.all ≡ false
-  pub json : given.format ≡ Json
+  pub format : IsRecordFormatNamed (text_in options its (codes "format")) given.format
 
 -- what is given by words that are understood
 pub record IsGivenBy (its : Parts) (given : Given) : Type 0 where

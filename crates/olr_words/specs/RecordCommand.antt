@@ -6,7 +6,7 @@ use Rattle.clap.specs.Words.{App, Rule, new_app, new_rule}
 use Rattle.clap.specs.Walk.{texts}
 use Rattle.clap.specs.declared.builder.action.ArgAction.{ArgAction}
 use Rattle.clap.specs.declared.builder.action.ArgAction.TheVariants.{SetTrue}
-use Rattle.olr_words.specs.Options.{OptionValue, RecordOption, option_named, number, one_of, json, cursor, flag}
+use Rattle.olr_words.specs.Options.{OptionValue, RecordOption, option_named, number, one_of, cursor, flag}
 use Rattle.olr_words.specs.declared.options.CommandOption.{CommandOption}
 use Rattle.olr_words.specs.declared.command.Subcommand.{Subcommand}
 use Rattle.olr_words.specs.declared.options.Takes.{Takes}
@@ -52,13 +52,13 @@ record_app name has_reference options = with_options (bare_app name has_referenc
 
 -- ---- the options of the program
 
--- what an option takes in a record, if a record may have it: no file, and not all pages; the
--- reference is no option
+-- what an option takes in a record, if a record may have it: no file, and not all pages; a format
+-- has words of its own there; the reference is no option
 abbrev pub record_value : Takes → Option OptionValue
 record_value takes.Reference = None
 record_value takes.Number = Some number
 record_value (takes.OneOf name words) = Some (one_of (texts words.now))
-record_value takes.Format = Some json
+record_value (takes.Format words of_record) = Some (one_of (texts of_record.now))
 record_value takes.Cursor = Some cursor
 record_value (takes.MapFile name) = None
 record_value takes.File = None

@@ -100,12 +100,13 @@ IsNameOf each.Why name = name ≡ codes "why"
 
 -- what a subcommand asks of a reference, with what is given
 abbrev pub IsWhat : Given → MapSubcommand → QuestionKind → Type 0
-IsWhat given each.Candidates what = what ≡ Candidates given.detail
+IsWhat given each.Candidates what = what ≡ Candidates given.extras
 IsWhat given each.Match what =
-    (what ≡ Match (size_of given) given.detail) × IsSize (size_of given)
+    (what ≡ Match (size_of given) given.extras) × IsSize (size_of given)
 IsWhat given each.Places what = (limits : PlaceLimits) × AreLimits given.numbers limits
-    × (what ≡ Places limits given.order given.detail)
-IsWhat given each.Why what = (what ≡ Why (nearest_of given)) × IsNearest (nearest_of given)
+    × (what ≡ Places limits given.order given.extras)
+IsWhat given each.Why what =
+    (what ≡ Why (nearest_of given) given.extras.shape) × IsNearest (nearest_of given)
 
 -- why that is refused: the page size, the first number for places, or the number of lines
 abbrev pub IsRefusedWhat : Given → MapSubcommand → Fault → Type 0

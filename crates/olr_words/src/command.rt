@@ -5,8 +5,8 @@ ghost use Rattle.olr_words.specs.Options.{options_named, options_of};
 ghost use Rattle.olr_words.specs.RecordCommand.{options_in, row_of};
 
 use crate::options::{
-    CommandOption, DETAIL, FAULT, FILES, FORMAT, LIMITS, NEAREST, ORDER, PAGE, PAGE_FORMAT, PAGES,
-    RECORDS, REFERENCE, REQUESTS, TOLERANCES, Takes,
+    CommandOption, DETAIL, FAULT, FILES, FORMAT, GEO_FORMAT, LIMITS, NEAREST, NEAREST_SHAPE, ORDER,
+    PAGE, PAGE_FORMAT, PAGES, PART, RECORDS, REFERENCE, REQUESTS, SHAPE, TOLERANCES, Takes,
 };
 use clap::{Arg, ArgAction, ArgGroup, Command, Error};
 use std::alloc::Global;
@@ -17,9 +17,6 @@ const VERSION: &str = "2.0.0.dev";
 /// What the help says about faults.
 const AFTER_HELP: &str =
     "If a command prints a fault, as 'olr: Header nodes', 'olr explain Header' says what it means.";
-
-/// The formats of an output.
-const FORMATS: &[&str] = &["text", "json"];
 
 /// A subcommand, with the groups of options that it has, in the order of its help.
 #[derive(Clone, Copy)]
@@ -55,7 +52,7 @@ const SUBCOMMANDS: &[Subcommand] = &[
     Subcommand {
         name: "candidates",
         about: "Print the lines of a map that may carry each point of an OpenLR reference, best first",
-        options: &[REFERENCE, FILES, DETAIL, FORMAT, TOLERANCES],
+        options: &[REFERENCE, FILES, DETAIL, SHAPE, GEO_FORMAT, TOLERANCES],
     },
     Subcommand {
         name: "match",
@@ -66,19 +63,23 @@ const SUBCOMMANDS: &[Subcommand] = &[
             PAGE,
             PAGES,
             DETAIL,
+            SHAPE,
             PAGE_FORMAT,
+            PART,
             TOLERANCES,
         ],
     },
     Subcommand {
         name: "places",
         about: "Print the places of a map where an OpenLR reference may lie, and whether its match is unique",
-        options: &[REFERENCE, FILES, LIMITS, ORDER, DETAIL, FORMAT, TOLERANCES],
+        options: &[
+            REFERENCE, FILES, LIMITS, ORDER, DETAIL, SHAPE, GEO_FORMAT, PART, TOLERANCES,
+        ],
     },
     Subcommand {
         name: "why",
         about: "Print why an OpenLR reference has no matching on a map, and what would help",
-        options: &[REFERENCE, FILES, NEAREST, FORMAT, TOLERANCES],
+        options: &[REFERENCE, FILES, NEAREST, NEAREST_SHAPE, FORMAT, TOLERANCES],
     },
 ];
 
@@ -87,22 +88,22 @@ const BATCH_SUBCOMMANDS: &[Subcommand] = &[
     Subcommand {
         name: "candidates",
         about: "Print the lines that may carry each point of each reference",
-        options: &[DETAIL, FILES, RECORDS, TOLERANCES],
+        options: &[DETAIL, SHAPE, FILES, RECORDS, TOLERANCES],
     },
     Subcommand {
         name: "match",
         about: "Print the first page of matchings of each reference",
-        options: &[PAGE, DETAIL, FILES, RECORDS, TOLERANCES],
+        options: &[PAGE, DETAIL, SHAPE, FILES, RECORDS, TOLERANCES],
     },
     Subcommand {
         name: "places",
         about: "Print the places where each reference may lie, and whether its match is unique",
-        options: &[LIMITS, ORDER, DETAIL, FILES, RECORDS, TOLERANCES],
+        options: &[LIMITS, ORDER, DETAIL, SHAPE, FILES, RECORDS, TOLERANCES],
     },
     Subcommand {
         name: "why",
         about: "Print why each reference has no matching, and what would help",
-        options: &[NEAREST, FILES, RECORDS, TOLERANCES],
+        options: &[NEAREST, NEAREST_SHAPE, FILES, RECORDS, TOLERANCES],
     },
 ];
 
@@ -137,10 +138,10 @@ fn argument<'a>(alloc: Global, option: &CommandOption) -> Result<Arg<'a>, Error>
                 .allow_negative_numbers(true),
         ),
         Takes::OneOf(name, words) => Ok(named(alloc, option).value_name(name).value_parser(words)),
-        Takes::Format => Ok(
+        Takes::Format(words, _) => Ok(
             named(alloc, option)
                 .value_name("FORMAT")
-                .value_parser(FORMATS),
+                .value_parser(words),
         ),
         Takes::Cursor => Ok(named(alloc, option).value_name("CURSOR")),
         Takes::Flag | Takes::AllPages => Ok(named(alloc, option).action(ArgAction::SetTrue)),

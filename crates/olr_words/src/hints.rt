@@ -2,14 +2,20 @@
 
 use crate::command::{EXPLAIN, Subcommand, batch_subcommand_named, command_of, subcommand_named};
 use crate::options::CommandOption;
+use crate::reading::{flag_in, format_in};
 use crate::rejected::Rejected;
 use clap::error::ErrorKind;
 use clap::{ArgMatches, Command, Error};
 use olr_explain::{Topic, faults, similar_name};
+use olr_request::Format;
 use std::alloc::Global;
 
 /// The least number of letters of a word that looks like a reference.
 const LEAST_LETTERS: usize = 8;
+
+/// Why coordinates aren't printed as text.
+const NO_SHAPE_AS_TEXT: &str =
+    "the argument '--shape' cannot be used with '--format text'\n\n  tip: '--format json' prints it";
 
 /// Whether a byte may be a letter of base64, in either alphabet.
 fn is_of_base64(byte: u8) -> bool {
@@ -62,11 +68,12 @@ fn rejection(
     alloc: Global,
     before: &str,
     subcommand: &Subcommand,
+    kind: ErrorKind,
     message: &str,
 ) -> Result<Rejected, Rejected> {
     let path = format!(in alloc; "{before} {}", subcommand.name)?;
     let mut command = command_of(alloc, subcommand)?.bin_name(&path)?;
-    Ok(Rejected::from(command.error(ErrorKind::ValueValidation, message)?))
+    Ok(Rejected::from(command.error(kind, message)?))
 }
 
 /// The first option of a subcommand that is given a text that isn't a whole number of 32 bits, but
@@ -108,7 +115,34 @@ fn check_numbers(
     let message = format!(in alloc;
         "invalid value '{text}' for '--{name} <N>': it takes a whole number\n\n  --{name} <N>  {help}"
     )?;
-    Err(rejection(alloc, before, &subcommand, &message)?)
+    Err(rejection(
+        alloc,
+        before,
+        &subcommand,
+        ErrorKind::ValueValidation,
+        &message,
+    )?)
+}
+
+/// Refuses coordinates in an output that is text, which is the format where none is given.
+fn check_shape(
+    alloc: Global,
+    subcommand: Option<Subcommand>,
+    found: &ArgMatches<'_>,
+) -> Result<(), Rejected> {
+    let Some(subcommand) = subcommand else {
+        return Ok(());
+    };
+    if !flag_in(found, "shape") || !matches!(format_in(found), Format::Text) {
+        return Ok(());
+    }
+    Err(rejection(
+        alloc,
+        "olr",
+        &subcommand,
+        ErrorKind::ArgumentConflict,
+        NO_SHAPE_AS_TEXT,
+    )?)
 }
 
 /// The faults that the words found for `explain` ask about.
@@ -138,16 +172,17 @@ fn check_topic(alloc: Global, found: &ArgMatches<'_>) -> Result<(), Rejected> {
         write!(message, "\n  tip: a similar name exists: '{similar}'")?;
     }
     message.push_str("\n  tip: 'olr explain' lists all faults")?;
-    Err(rejection(alloc, "olr", &EXPLAIN, &message)?)
+    Err(rejection(alloc, "olr", &EXPLAIN, ErrorKind::ValueValidation, &message)?)
 }
 
-/// Refuses what is found among the words where `clap` took a text that isn't what its place takes:
-/// a number, or the name of a fault.
+/// Refuses what is found among the words where `clap` took a text that isn't what its place takes, a
+/// number or the name of a fault; and coordinates in an output that is text. In a batch each answer
+/// is JSON.
 ///
 /// # Errors
 ///
-/// [`Rejected::Words`] with the first such text; [`Rejected::Fault`] where the allocator refused
-/// memory.
+/// [`Rejected::Words`] with the first such text; else where the two options exclude each other;
+/// [`Rejected::Fault`] where the allocator refused memory.
 pub fn check_values(alloc: Global, matches: &ArgMatches<'_>) -> Result<(), Rejected> {
     let Some((name, found)) = matches.subcommand() else {
         return Ok(());
@@ -156,7 +191,9 @@ pub fn check_values(alloc: Global, matches: &ArgMatches<'_>) -> Result<(), Rejec
         return check_topic(alloc, found);
     }
     if name != "batch" {
-        return check_numbers(alloc, "olr", subcommand_named(name), found);
+        let subcommand = subcommand_named(name);
+        check_numbers(alloc, "olr", subcommand, found)?;
+        return check_shape(alloc, subcommand, found);
     }
     let Some((name, found)) = found.subcommand() else {
         return Ok(());

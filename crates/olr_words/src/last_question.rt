@@ -8,11 +8,12 @@ use olr_request::{Format, Pages, Question, Request};
 use std::alloc::Global;
 use std::marker::Model;
 
-/// Words before a reference, and the question that they ask of it.
+/// Words before a reference, the question that they ask of it, and the format of the answer.
 #[derive(Drop)]
 struct KeptQuestion {
     words: String,
     question: Question,
+    format: Format,
 }
 
 /// The question that was asked last, so that the words for it needn't be understood again. It changes
@@ -28,7 +29,7 @@ impl Model for LastQuestion {
     ghost view = { λ _. tt };
 
     ghost invariant = { λ last. IfSome last.kept (λ kept.
-        AskOfEach kept.words.bytes.items kept.question) };
+        AskOfEach kept.words.bytes.items kept.question kept.format) };
 }
 
 impl LastQuestion {
@@ -47,19 +48,23 @@ impl LastQuestion {
         let (words, reference) = text.split_once(" -- ")?;
         if words == kept.words.as_str() {
             let question = &kept.question;
-            return Some(question.request(reference, Pages::One(None), Format::Json));
+            return Some(question.request(reference, Pages::One(None), kept.format));
         }
         None
     }
 
-    /// Keeps the question that words ask of the reference behind them. Where the allocator refuses
-    /// memory, the one before stays.
-    pub(crate) fn keep(&mut self, alloc: Global, words: &str, question: Question)
-        requires { AskOfEach words.now question }
+    /// Keeps the question that words ask of the reference behind them, and the format in which they
+    /// ask it. Where the allocator refuses memory, the one before stays.
+    pub(crate) fn keep(&mut self, alloc: Global, words: &str, question: Question, format: Format)
+        requires { AskOfEach words.now question format }
     {
         let Ok(words) = String::from_str(alloc, words) else {
             return;
         };
-        self.kept = Some(KeptQuestion { words, question });
+        self.kept = Some(KeptQuestion {
+            words,
+            question,
+            format,
+        });
     }
 }

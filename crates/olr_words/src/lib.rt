@@ -1,9 +1,10 @@
 //! The words of a command line, and those of a record: what they ask for.
 //!
 //! - [`command`]: the subcommands, as `clap` takes them; [`options`]: their options and the texts of
-//!   help; [`place_order`]: the orders of places, by their names.
+//!   help; [`place_order`] and [`route_part`]: the orders of places and the parts of a route, by
+//!   their names.
 //! - [`words`]: what the words ask for: a request or many records, and the files that they read; or
-//!   what a fault means.
+//!   what a fault means; [`reading`]: the numbers, flags and names that they give.
 //! - [`record_words`]: the words of a record, and the reference behind them.
 //! - [`record`]: the request that they ask for; [`record_command`]: the options that they may have, as
 //!   `clap` takes them; [`last_question`]: the question that was asked last, which needn't be
@@ -20,10 +21,12 @@ mod last_question;
 mod options;
 mod place_order;
 mod profile;
+mod reading;
 mod record;
 mod record_command;
 mod record_words;
 mod rejected;
+mod route_part;
 mod words;
 
 pub use last_question::LastQuestion;

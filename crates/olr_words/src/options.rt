@@ -7,6 +7,7 @@ ghost use Rattle.olr_words.specs.RecordCommand.{is_flag, record_value};
 
 use crate::place_order::PLACE_ORDERS;
 use crate::profile::Profile;
+use crate::route_part::ROUTE_PARTS;
 
 /// What an option takes.
 #[derive(Clone, Copy)]
@@ -24,8 +25,8 @@ pub(crate) enum Takes {
     Number,
     /// One of these words, which stand for this name.
     OneOf(&'static str, &'static [&'static str]),
-    /// The format of an output.
-    Format,
+    /// The format of an output: one of the first words, or of the second ones in a record.
+    Format(&'static [&'static str], &'static [&'static str]),
     /// The text of a cursor.
     Cursor,
     /// Nothing more: it is there, or it isn't.
@@ -66,7 +67,7 @@ impl CommandOption {
     {
         matches!(
             self.takes,
-            Takes::Number | Takes::OneOf(_, _) | Takes::Format | Takes::Cursor | Takes::Flag
+            Takes::Number | Takes::OneOf(_, _) | Takes::Format(_, _) | Takes::Cursor | Takes::Flag
         )
     }
 
@@ -77,8 +78,8 @@ impl CommandOption {
         matches!(self.takes, Takes::Flag)
     }
 
-    /// Whether it takes a text in a record. The format of a record's answer is JSON. A flag has no text
-    /// of its own: it takes any that `clap` finds for it.
+    /// Whether it takes a text in a record. The format of a record's answer isn't text. A flag has no
+    /// text of its own: it takes any that `clap` finds for it.
     pub fn takes_in_record(&self, text: &str) -> bool
         ensures { Decides result
             (IfSome (record_value self.now.takes) (λ value. IsValue value text.now)) }
@@ -86,7 +87,7 @@ impl CommandOption {
         match self.takes {
             Takes::Number => text.parse::<u32>().is_ok(),
             Takes::OneOf(_, words) => is_one_of(text, words),
-            Takes::Format => text == "json",
+            Takes::Format(_, words) => is_one_of(text, words),
             _ => true,
         }
     }
@@ -200,11 +201,38 @@ pub(crate) const DETAIL: &[CommandOption] = &[CommandOption {
     help: "Print the parts of each penalty, and what they come from",
 }];
 
+/// Whether the coordinates of each candidate, matching or place are printed. Text has none.
+pub(crate) const SHAPE: &[CommandOption] = &[CommandOption {
+    name: "shape",
+    takes: Takes::Flag,
+    help: "Print where each candidate and each matching lies, in microdegrees: not as text",
+}];
+
+/// Which part of a route is drawn.
+pub(crate) const PART: &[CommandOption] = &[CommandOption {
+    name: "part",
+    takes: Takes::OneOf("PART", ROUTE_PARTS),
+    help: "Which part of each route GeoJSON draws: the whole route, or the outer or inner part between its offsets [default: outer]",
+}];
+
+/// Text or JSON.
+const TEXT_OR_JSON: Takes = Takes::Format(&["text", "json"], &["json"]);
+
+/// One of these, or GeoJSON, for what can be drawn on a map.
+const ANY_FORMAT: Takes = Takes::Format(&["text", "json", "geojson"], &["json", "geojson"]);
+
 /// The format of an output that is one object.
 pub(crate) const FORMAT: &[CommandOption] = &[CommandOption {
     name: "format",
-    takes: Takes::Format,
+    takes: TEXT_OR_JSON,
     help: "Print text, or JSON: one object on a line [default: text]",
+}];
+
+/// The format of an output that is one object, and can be drawn on a map.
+pub(crate) const GEO_FORMAT: &[CommandOption] = &[CommandOption {
+    name: "format",
+    takes: ANY_FORMAT,
+    help: "Print text, JSON or GeoJSON: one object on a line [default: text]",
 }];
 
 /// The size of a page.
@@ -231,8 +259,8 @@ pub(crate) const PAGES: &[CommandOption] = &[
 /// The format of pages.
 pub(crate) const PAGE_FORMAT: &[CommandOption] = &[CommandOption {
     name: "format",
-    takes: Takes::Format,
-    help: "Print each page as text, or as JSON: one object on a line [default: text]",
+    takes: ANY_FORMAT,
+    help: "Print each page as text, JSON or GeoJSON: one object on a line [default: text]",
 }];
 
 /// How many lines near each point are printed.
@@ -240,6 +268,13 @@ pub(crate) const NEAREST: &[CommandOption] = &[CommandOption {
     name: "nearest",
     takes: Takes::Number,
     help: "How many of the lines nearest to each point are printed: 0 to 64 [default: 8]",
+}];
+
+/// Whether the coordinates of these lines are printed. Text has none.
+pub(crate) const NEAREST_SHAPE: &[CommandOption] = &[CommandOption {
+    name: "shape",
+    takes: Takes::Flag,
+    help: "Print where each of these lines is nearest to its point, in microdegrees: not as text",
 }];
 
 /// The records of a batch.

@@ -281,12 +281,12 @@ fn keep_question(alloc: Global, last: &mut LastQuestion, words: &RecordWords<'_>
         return;
     }
     if let Some(question) = given.question_without_cursor(name_in(words)) {
-        last.keep(alloc, words.text, question);
+        last.keep(alloc, words.text, question, given.format);
     }
 }
 
-/// What the words of a record ask for, as JSON. A question of a reference behind the words, with no
-/// cursor and nothing refused, is kept as the last one.
+/// What the words of a record ask for, as JSON or GeoJSON. A question of a reference behind the words,
+/// with no cursor and nothing refused, is kept as the last one.
 ///
 /// # Errors
 ///

@@ -3,11 +3,9 @@
 ghost use Rattle.std.specs.Prelude.{◌≡◌, ◌≢◌, IfErr, IfNone, IfOk, IfSome, codes, false};
 ghost use Rattle.clap.specs.Words.{first_value, found_of};
 ghost use Rattle.olr_request.specs.declared.fault.Fault.TheVariants as fault;
-ghost use Rattle.olr_request.specs.declared.request.Format.TheVariants.{Json as JsonFormat};
 ghost use Rattle.olr_request.specs.declared.request.Request.TheVariants.{Show};
 ghost use Rattle.olr_words.specs.declared.words.MapSubcommand.{MapSubcommand as OfMap};
-ghost use Rattle.olr_words.specs.Given.{AreNumbers, AreTolerancesOf, IsFlagOf, IsFormatNamed};
-ghost use Rattle.olr_words.specs.Given.{IsGiven, IsNumberOf};
+ghost use Rattle.olr_words.specs.Given.{AreNumbers, IsFlagOf, IsFormatNamed, IsGiven, record_format};
 ghost use Rattle.olr_words.specs.LastQuestion.{IsQuestionWithoutCursor};
 ghost use Rattle.olr_words.specs.Record.{IsOfSubcommand};
 ghost use Rattle.olr_words.specs.Words.{AreBoth, AreLimits, AreTolerances, IsNameOf, IsNearest};
@@ -19,6 +17,7 @@ use crate::command::whole_command;
 use crate::hints::{check_values, not_understood, topic_in};
 use crate::place_order::place_order_named;
 use crate::profile::Profile;
+use crate::reading::{extras_in, flag_in, format_in, format_of_record, number_in, tolerances_in};
 use crate::rejected::Rejected;
 use clap::error::ErrorKind;
 use clap::{ArgMatches, Command};
@@ -27,7 +26,7 @@ use olr_explain::Topic;
 use olr_keys::PageSize;
 use olr_likely::PlaceOrder;
 use olr_places::PlaceLimits;
-use olr_request::{Fault, Format, Pages, Question, QuestionKind, Request};
+use olr_request::{Extras, Fault, Format, Pages, Question, QuestionKind, Request};
 use olr_why::NearestCount;
 use std::alloc::{AllocError, Global};
 
@@ -108,33 +107,6 @@ impl MapSubcommand {
     }
 }
 
-/// The number that is found for an option; `None` where there is no text for it, or one that is no
-/// number.
-fn number_in(found: &ArgMatches<'_>, name: &str) -> Option<u32>
-    ensures { IsNumberOf (first_value (found_of found.now) name.now) result }
-{
-    let text = found.get_str(name)?;
-    text.parse().ok()
-}
-
-/// Whether a flag is there. The text that `clap` finds for it is `true` if it is, else `false`.
-fn flag_in(found: &ArgMatches<'_>, name: &str) -> bool
-    ensures { IsFlagOf (first_value (found_of found.now) name.now) result }
-{
-    matches!(found.get_str(name), Some("true"))
-}
-
-/// The numbers that are found for the tolerances, in the order of [`Tolerance::ALL`].
-fn tolerances_in(found: &ArgMatches<'_>) -> [Option<u32>; Tolerance::COUNT]
-    ensures { AreTolerancesOf (first_value (found_of found.now)) result }
-{
-    let mut tolerances = [None; Tolerance::COUNT];
-    for name in Tolerance::ALL {
-        tolerances[name.order()] = number_in(found, name.text());
-    }
-    tolerances
-}
-
 /// The numbers that the words give for places, in range or not: apart in decimetres, within in
 /// penalty points, look in matchings, most in places. `None` where an option is left out, or where
 /// the subcommand has no such option.
@@ -182,8 +154,8 @@ impl GivenNumbers {
 
 /// What the words give to a subcommand, in range or not: the profile, the tolerances in the order of
 /// [`Tolerance::ALL`] and the units of [`Tolerance::least`], how many matchings a page has, the
-/// numbers for places and their order, how many lines near a point are printed, and whether in
-/// detail. `None` where a number is left out, or where the subcommand has no such option.
+/// numbers for places and their order, how many lines near a point are printed, and what is shown of
+/// each thing. `None` where a number is left out, or where the subcommand has no such option.
 #[derive(Clone, Copy)]
 pub(crate) struct Given<'a> {
     text: &'a str,
@@ -193,10 +165,10 @@ pub(crate) struct Given<'a> {
     numbers: GivenNumbers,
     order: PlaceOrder,
     nearest: Option<u32>,
-    detail: bool,
+    extras: Extras,
     after: Option<&'a str>,
     all: bool,
-    format: Format,
+    pub(crate) format: Format,
 }
 
 impl<'a> Given<'a> {
@@ -216,23 +188,23 @@ impl<'a> Given<'a> {
             numbers: GivenNumbers::read(found),
             order: place_order_named(found.get_str("order")),
             nearest: number_in(found, "nearest"),
-            detail: flag_in(found, "detail"),
+            extras: extras_in(found),
             after: found.get_str("after"),
             all: flag_in(found, "all"),
-            format: match found.get_str("format") {
-                Some("json") => Format::Json,
-                _ => Format::Text,
-            },
+            format: format_in(found),
         }
     }
 
-    /// The same in a record: one page at most, as JSON.
+    /// The same in a record: one page at most, and JSON in place of text.
     pub(crate) fn of_record(self) -> Given<'a>
-        ensures { result ≡ record (self.entry) { all = false; format = JsonFormat } }
+        ensures { result ≡ record (self.entry) {
+          all = false;
+          format = record_format self.entry.format;
+        } }
     {
         Given {
             all: false,
-            format: Format::Json,
+            format: format_of_record(self.format),
             ..self
         }
     }
@@ -328,19 +300,22 @@ impl<'a> Given<'a> {
         ensures accepted { IfOk result (IsWhat self.now subcommand) }
         ensures refused { IfErr result (IsRefusedWhat self.now subcommand) }
     {
-        let detail = self.detail;
+        let extras = self.extras;
         match subcommand {
-            MapSubcommand::Candidates => Ok(QuestionKind::Candidates { detail }),
+            MapSubcommand::Candidates => Ok(QuestionKind::Candidates { extras }),
             MapSubcommand::Match => Ok(QuestionKind::Match {
                 size: self.size()?,
-                detail,
+                extras,
             }),
             MapSubcommand::Places => Ok(QuestionKind::Places {
                 limits: self.numbers.limits()?,
                 order: self.order,
-                detail,
+                extras,
             }),
-            MapSubcommand::Why => Ok(QuestionKind::Why(self.nearest_count()?)),
+            MapSubcommand::Why => Ok(QuestionKind::Why {
+                nearest: self.nearest_count()?,
+                shape: extras.shape,
+            }),
         }
     }
 
@@ -469,8 +444,8 @@ fn nothing_asked(command: &mut Command<'_>) -> Result<Rejected, AllocError> {
 /// # Errors
 ///
 /// [`Rejected::Words`] where the words name no subcommand, give it something that it doesn't take,
-/// lack something that it requires, ask for help, give a number that isn't a whole one of 32 bits, or
-/// name a fault that there isn't; else [`Rejected::Fault`]: with
+/// lack something that it requires, ask for help, give a number that isn't a whole one of 32 bits,
+/// ask for coordinates in text, or name a fault that there isn't; else [`Rejected::Fault`]: with
 /// [`Fault::AfterWithAll`] where both a cursor and all pages are asked for; else with
 /// [`Fault::BadTolerance`] and the first tolerance that is out of its range; else with
 /// [`Fault::BadPage`] and a page size that is out of its range, [`Fault::BadNumber`] and the first

@@ -15,8 +15,8 @@ returns-then-eq c =
     let same : c.in_ok-words.words.now ≡ c.in-Some.kept.words.bytes.items =
     (bytes_eq-Decides c.in_ok-words.words.now c.as_str.result.now).0
     (sym c.eq.ensures ∙ c.if-eq.true) ∙ c.as_str.ensures.value in
-    let ask : AskOfEach c.in-Some.kept.words.bytes.items c.in-Some.kept.question =
-    subst (λ kept. IfSome kept (λ k. AskOfEach k.words.bytes.items k.question)) c.in-Some.is
+    let ask : AskOfEach c.in-Some.kept.words.bytes.items c.in-Some.kept.question c.in-Some.kept.format =
+    subst (λ kept. IfSome kept (λ k. AskOfEach k.words.bytes.items k.question k.format)) c.in-Some.is
     c.self.invariant in
     let at : IsAtDashes c.args.text.now c.in_ok-words.words.now c.in_ok-words.reference.now =
     at_dashes _ _ _ cases.0 cases.1 cases.2 cases.6 (split_text_parts dashes c.args.text.now
