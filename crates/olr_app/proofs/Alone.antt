@@ -9,11 +9,11 @@ pub anywhere : (what : QuestionKind) (tolerances : Tolerances) (road : RoadMap) 
     (answer : Result (List ℕ) Fault)
     → IsAnswerOfMany road (asked_alone what tolerances text) answer
     ≡ IsAnswerOfMany road (asked_alone what tolerances (at_bytes text.now)) answer
-anywhere (Candidates detail) tolerances road text (Ok found) = refl
-anywhere (Candidates detail) tolerances road text (Err why) = refl
-anywhere (Match size detail) tolerances road text (Ok found) = refl
-anywhere (Match size detail) tolerances road text (Err why) = refl
-anywhere (Places limits order detail) tolerances road text (Ok found) = refl
-anywhere (Places limits order detail) tolerances road text (Err why) = refl
-anywhere (Why nearest) tolerances road text (Ok found) = refl
-anywhere (Why nearest) tolerances road text (Err why) = refl
+anywhere (Candidates extras) tolerances road text (Ok found) = refl
+anywhere (Candidates extras) tolerances road text (Err why) = refl
+anywhere (Match size extras) tolerances road text (Ok found) = refl
+anywhere (Match size extras) tolerances road text (Err why) = refl
+anywhere (Places limits order extras) tolerances road text (Ok found) = refl
+anywhere (Places limits order extras) tolerances road text (Err why) = refl
+anywhere (Why nearest shape) tolerances road text (Ok found) = refl
+anywhere (Why nearest shape) tolerances road text (Err why) = refl

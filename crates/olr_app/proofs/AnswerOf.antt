@@ -41,7 +41,7 @@ module _ (request : Request) (accepted : Accepted) (road : RoadMap) where
 -- the faults with which the stages after the map end
 ends_with : (request : Request) (accepted : Accepted) (road : RoadMap) (why : Fault)
     → Ends request accepted road why → IsFaultAfterMap request accepted road why
-ends_with (Candidates text tolerances detail format) accepted road why is = inr (inl (is.0 + 1, is.2))
+ends_with (Candidates text tolerances extras format) accepted road why is = inr (inl (is.0 + 1, is.2))
 ends_with (Match asked) accepted road why is = elim is [
   | inl other ↦ inl other.0
   | inr later ↦ elim later.2 [

@@ -8,8 +8,9 @@ pub use Rattle.std.specs.Prelude.{Bool, IfErr, IfOk, IsErrAnd, Result, option_ma
 pub use Rattle.arrayvec.specs.ArrayVec.{ArrayVec}
 pub use Rattle.olr_app.specs.Accepting.{Accepts, IsReferenceOf, IsStart, OneOutcome, ReportsRefusal}
 pub use Rattle.olr_app.specs.Answer.{IsAnswer, IsAnswerOf, IsAnswerOfMany, IsAnswerOn, IsAnswerOnMap, IsFault, IsFaultOfMany, IsFaultOnMap, IsMapOfFiles, IsOutput, IsReason}
+pub use Rattle.olr_app.specs.Common.{Extras}
 pub use Rattle.olr_app.specs.Listing.{IsListingAsAsked, IsListingIn, candidate_row, candidates_array, listing_object, point_listing}
-pub use Rattle.olr_app.specs.Matching.{AreLayers, AreMatchings, ArePages, ArePagesAsked, AreTextsOfPages, IsMarkOf, IsPagesText, IsPrinted, IsStartHere, OnLayers, OnStart, key_of, values_of}
+pub use Rattle.olr_app.specs.Matching.{AreLayers, AreMatchings, ArePages, ArePagesAsked, ArePagesIn, AreTextsOfPages, IsMarkOf, IsPagesText, IsPrinted, IsStartHere, OnLayers, OnStart, key_of, values_of}
 pub use Rattle.olr_app.specs.Page.{IsTextOfPage}
 pub use Rattle.olr_app.specs.Stages.{AndThen, IsStageFault}
 pub use Rattle.olr_app.specs.Writing.{Hands, HasStopped, IsWritten, no_call, one_call}

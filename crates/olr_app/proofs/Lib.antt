@@ -4,7 +4,8 @@ pub mod Single
 pub mod Accepts
 pub mod AnswerOf
 pub mod PagesOf
-pub mod JsonListing
+pub mod Features
+pub mod Listings
 pub mod Alone
 pub mod OnePage
 pub mod OnMap

@@ -1,9 +1,20 @@
 -- The parts, the keys and the texts of pages, page by page; and why a page isn't there.
 use Rattle.std.proofs.Math.Seq.{take-suc}
 use Rattle.std.proofs.lemmas.List.Folds.{concat-append}
-use Rattle.olr_app.proofs.Common.{RoadMap, AreEntriesAt, Entry, IsMatchedBy, Matched, AreAnswers, IsPosition, KeyValue, IsKey, PageValue, IsPageAfter, IsRestAfter, Penalties, CursorRead, Mark, Page, LayersValue, key_of, ArePages, ArePagesAsked, values_of, AreTextsOfPages, IsTextOfPage, AndThen, IsStageFault, Fault, Format, MatchRequest, Bool, Pages, One, ◌≡◌, ℕ, List, [], ◌∷◌, Option, None, Some, Ok, Err, All, Contains, refl, inl, inr, ◌++◌, map, take, ap, sym, subst, ◌+◌, ◌≤◌, ◌<◌, add-one, length, true, false, ◌∙◌, append-nil, take_all, All-nil, All-cons, All-head, All-tail, All-take, All-contains, All-map, AllZip, concat, Result, slice_index_or, AreEntriesOf, IsEntryAt, IsEntryOf, keys_of}
-use Rattle.olr_app.specs.Page.{IsPageTextWith}
-use Rattle.olr_app.specs.inner.PageOfParts.{IsPageOfParts}
+use Rattle.olr_app.proofs.Common.{RoadMap, AreEntriesAt, Entry, IsMatchedBy, Matched, AreAnswers, IsPosition, KeyValue, IsKey, PageValue, IsPageAfter, IsRestAfter, Penalties, CursorRead, Mark, Page, LayersValue, key_of, ArePages, ArePagesAsked, values_of, ArePagesIn, Extras, IsTextOfPage, Reference, AndThen, IsStageFault, Fault, Format, MatchRequest, Bool, Pages, One, ◌≡◌, ℕ, List, [], ◌∷◌, Option, None, Some, Ok, Err, All, Contains, refl, inl, inr, ◌++◌, map, take, ap, sym, subst, ◌+◌, ◌≤◌, ◌<◌, add-one, length, true, false, ◌∙◌, append-nil, take_all, All-nil, All-cons, All-head, All-tail, All-take, All-contains, All-map, AllZip, concat, Result, slice_index_or, AreEntriesOf, IsEntryAt, IsEntryOf, keys_of}
+use Rattle.std.proofs.Common.{suc, zero, ◌-◌, arith}
+use Rattle.std.proofs.lemmas.Option.{same_Some, slice_get_past, slice_get_within}
+use Rattle.std.specs.Prelude.{slice_get}
+use Rattle.olr_app.proofs.Features.{collected, of_pages}
+use Rattle.olr_app.specs.Matching.{next_behind}
+use Rattle.olr_app.specs.Page.{IsPageAsAsked, IsPageTextWith}
+use Rattle.olr_app.specs.inner.Added.{AreAddedFor, AreFeatures, AreFeaturesOfKeys, IsAddedFor}
+use Rattle.olr_app.specs.inner.PageOfParts.{AreFeaturesOfParts, IsJsonOfParts, IsPageOfParts, IsTextOfParts}
+use Rattle.olr_detail.specs.GeoJson.{page_members}
+use Rattle.olr_geojson.specs.Collection.{collection_text}
+use Rattle.olr_geojson.specs.Feature.{Feature, feature_text}
+use Rattle.olr_geojson.specs.Joined.{behind_commas}
+use Rattle.olr_report.specs.ShownMap.{shown_as}
 use Rattle.olr_detail.specs.MatchingDetail.{Detailed, entries_of}
 use Rattle.olr_detail.specs.Page.{AreDetailed}
 use Rattle.olr_keys.specs.Headline.{joined}
@@ -13,7 +24,7 @@ use Rattle.olr_keys.specs.declared.pages.PageFault.TheVariants.{CursorNotHere, N
 use Rattle.olr_report.specs.Text.{next_after}
 use Rattle.olr_road.proofs.Zips.{zip_push}
 use Rattle.olr_request.specs.Fault.{fault_of_page}
-use Rattle.olr_request.specs.declared.request.Format.TheVariants.{Json, Text}
+use Rattle.olr_request.specs.declared.request.Format.TheVariants.{GeoJson, Json, Text}
 use Rattle.olr_request.specs.declared.request.Pages.TheVariants.{All as AllPages}
 use Rattle.olr_request.specs.declared.fault.Fault.TheVariants as fault
 
@@ -156,74 +167,174 @@ module _ (road : RoadMap) (layers : LayersValue) where
         (sym are.matched_are) zip)) are.each;
   }
 
-  -- the text of a page in detail, from that of the parts of its matchings and of their details
-  in_detail : (format : Format) (matched : List Matched) (all : List Detailed) {page : PageValue}
-      {mark : Option Mark} {text : List ℕ}
-      → AllZip (IsMatchedBy road layers) page.keys matched
-      → AreDetailed layers.tolerances layers.reference road page matched all
-      → IsPageTextWith format road all (next_after page) mark text
-      → IsTextOfPage true format road layers mark page text
-  in_detail format matched all zip are text_is = record {
-    entries = entries_of all;
-    are = entries_at zip are.entries;
-    text_is = record {
-      all = all;
-      are = record { entries_are = refl; each = are.each };
-      text_is = text_is;
-    };
+-- the map with shapes or without is this map
+pub same_road : (shape : Bool) (road : RoadMap) (reference : Reference)
+    → (shown_as shape road reference).road ≡ road
+same_road false road reference = refl
+same_road true road reference = refl
+
+module _ (extras : Extras) (road : RoadMap) (layers : LayersValue) (page : PageValue)
+    (matched : List Matched) (zip : AllZip (IsMatchedBy road layers) page.keys matched) where
+  -- the text of a page
+  of_entries : (detail : Bool) (format : Format) (entries : List Entry) {mark : Option Mark}
+      {text : List ℕ} → extras.detail ≡ detail
+      → AreEntriesOf layers.reference page.keys matched entries
+      → IsPageAsAsked detail extras format road layers entries (next_after page) mark text
+      → IsTextOfPage extras format road layers mark page text
+  of_entries detail format entries {mark} {text} same are text_is = record {
+    entries = entries;
+    are = entries_at road layers zip are;
+    text_is = subst (λ d.
+        IsPageAsAsked d extras format road layers entries (next_after page) mark text) (sym same)
+        text_is;
   }
 
-  -- the text of a page, from that of the parts of its matchings
-  pub text_of_parts : (detail : Bool) (format : Format) (matched : List Matched) {page : PageValue}
-      {mark : Option Mark} {text : List ℕ}
-      → AllZip (IsMatchedBy road layers) page.keys matched
-      → IsPageOfParts detail format layers.tolerances layers.reference road page matched mark text
-      → IsTextOfPage detail format road layers mark page text
-  text_of_parts false Text matched zip is = record {
-    entries = is.entries;
-    are = entries_at zip is.are_entries;
-    text_is = is.text_is;
+  -- the same in detail
+  of_details : (format : Format) (all : List Detailed) {mark : Option Mark} {text : List ℕ}
+      → extras.detail ≡ true → AreDetailed layers.tolerances layers.reference road page matched all
+      → IsPageTextWith extras road layers.reference format all (next_after page) mark text
+      → IsTextOfPage extras format road layers mark page text
+  of_details format all same are text_is = of_entries true format (entries_of all) same are.entries
+      (record {
+        all = all;
+        are = record { entries_are = refl; each = are.each };
+        text_is = text_is;
+      })
+
+  -- the features of a page
+  of_features : (detail : Bool) (entries : List Entry) (all : List Feature) {added : List ℕ}
+      → extras.detail ≡ detail → AreEntriesOf layers.reference page.keys matched entries
+      → AreFeatures detail extras road layers entries all
+      → added ≡ behind_commas feature_text all
+      → AreFeaturesOfKeys extras road layers page.keys added
+  of_features detail entries all same are are_features added_is = record {
+    entries = entries;
+    are = entries_at road layers zip are;
+    all = all;
+    are_features = subst (λ d. AreFeatures d extras road layers entries all) (sym same)
+        are_features;
+    added_is = added_is;
   }
-  text_of_parts false Json matched zip is = record {
-    entries = is.entries;
-    are = entries_at zip is.are_entries;
-    text_is = is.json;
-  }
-  text_of_parts true Text matched zip is = in_detail Text matched is.all zip is.are is.text_is
-  text_of_parts true Json matched zip is = in_detail Json matched is.all zip is.are is.json
 
--- ---- the texts so far
+  -- what a page adds to the output, from what the parts of its matchings give
+  added_of_text : (detail : Bool) {mark : Option Mark} {added : List ℕ} → extras.detail ≡ detail
+      → IsTextOfParts detail layers.tolerances layers.reference road page matched mark added
+      → IsTextOfPage extras Text road layers mark page added
+  added_of_text false same is = of_entries false Text is.entries same is.are_entries is.text_is
+  added_of_text true same is = of_details Text is.all same is.are is.text_is
 
-module _ (detail : Bool) (format : Format) (road : RoadMap) (layers : LayersValue) (mark : Option Mark) where
-  abbrev IsText : Page → List ℕ → Type 0
-  IsText page text = IsTextOfPage detail format road layers mark (page_of page) text
+  added_of_json : (detail : Bool) {mark : Option Mark} {added : List ℕ} → extras.detail ≡ detail
+      → IsJsonOfParts detail extras.shape layers.tolerances layers.reference road page matched mark
+      added → IsTextOfPage extras Json road layers mark page added
+  added_of_json false same is = of_entries false Json is.entries same is.are_entries is.json
+  added_of_json true same is = of_details Json is.all same is.are is.json
 
-  abbrev pub ShowsPages : List Page → List ℕ → Type 0
-  ShowsPages pages output =
-      (texts : List (List ℕ)) × AllZip IsText pages texts × (output ≡ concat texts)
+  added_of_features : (detail : Bool) {added : List ℕ} → extras.detail ≡ detail
+      → AreFeaturesOfParts detail extras layers.tolerances layers.reference road page matched added
+      → AreFeaturesOfKeys extras road layers page.keys added
+  added_of_features false same is = of_features false is.entries _ same is.are refl is.text_is
+  added_of_features true same is =
+      let are = subst (λ r. AreDetailed layers.tolerances layers.reference r page matched is.all)
+      (same_road extras.shape road layers.reference) is.are in
+      of_features true (entries_of is.all) _ same are.entries
+      (is.all, record { entries_are = refl; each = are.each }, refl) is.text_is
 
-  pub one_more : (pages : List Page) (index : ℕ) (page : Page) (output text longer : List ℕ)
+  pub added_of_parts : (format : Format) (mark : Option Mark) (added : List ℕ)
+      → IsPageOfParts format extras layers.tolerances layers.reference road page matched mark added
+      → IsAddedFor format extras road layers mark page added
+  added_of_parts Text mark added is = added_of_text extras.detail refl is
+  added_of_parts Json mark added is = added_of_json extras.detail refl is
+  added_of_parts GeoJson mark added is = added_of_features extras.detail refl is
+
+-- ---- what pages added so far
+
+module _ (extras : Extras) (format : Format) (road : RoadMap) (layers : LayersValue)
+    (mark : Option Mark) where
+  abbrev IsAdded : Page → List ℕ → Type 0
+  IsAdded page added = IsAddedFor format extras road layers mark (page_of page) added
+
+  abbrev pub AddsPages : List Page → List ℕ → Type 0
+  AddsPages pages output =
+      (texts : List (List ℕ)) × AllZip IsAdded pages texts × (output ≡ concat texts)
+
+  pub one_more : (pages : List Page) (index : ℕ) (page : Page) (output added longer : List ℕ)
       → index < length pages → page ≡ slice_index_or pages index page
-      → ShowsPages (take index pages) output
-      → IsTextOfPage detail format road layers mark (page_of page) text → longer ≡ output ++ text
-      → ShowsPages (take (index + 1) pages) longer
-  one_more pages index page output text longer inside is so_far shown grown =
+      → AddsPages (take index pages) output
+      → IsAddedFor format extras road layers mark (page_of page) added → longer ≡ output ++ added
+      → AddsPages (take (index + 1) pages) longer
+  one_more pages index page output added longer inside is so_far adds grown =
       let next : take index pages ++ page ∷ [] ≡ take (index + 1) pages = simp add-one
       (ap (λ e. take index pages ++ e ∷ []) is ∙ sym (take-suc pages index page inside)) in (
-        so_far.0 ++ text ∷ [],
-        subst (λ l. AllZip IsText l (so_far.0 ++ text ∷ [])) next
-            (zip_push IsText (take index pages) so_far.0 page text so_far.1 shown),
-        grown ∙ ap (λ l. l ++ text) so_far.2
-            ∙ ap (λ l. concat so_far.0 ++ l) (sym (append-nil text))
-            ∙ sym (concat-append so_far.0 (text ∷ [])),
+        so_far.0 ++ added ∷ [],
+        subst (λ l. AllZip IsAdded l (so_far.0 ++ added ∷ [])) next
+            (zip_push IsAdded (take index pages) so_far.0 page added so_far.1 adds),
+        grown ∙ ap (λ l. l ++ added) so_far.2
+            ∙ ap (λ l. concat so_far.0 ++ l) (sym (append-nil added))
+            ∙ sym (concat-append so_far.0 (added ∷ [])),
       )
 
-  pub all_pages_shown : (pages : List Page) (index : ℕ) (output : List ℕ) → length pages ≤ index
-      → ShowsPages (take index pages) output
-      → AreTextsOfPages detail format road layers mark (values_of pages) output
-  all_pages_shown pages index output past shows = record {
-    texts = shows.0;
-    each = zip_values (IsTextOfPage detail format road layers mark) page_of pages shows.0
-        (subst (λ l. AllZip IsText l shows.0) (take_all index pages past) shows.1);
-    whole = shows.2;
+  pub all_pages_added : (pages : List Page) (index : ℕ) (output : List ℕ) → length pages ≤ index
+      → AddsPages (take index pages) output
+      → AreAddedFor extras format road layers mark (values_of pages) output
+  all_pages_added pages index output past adds = record {
+    texts = adds.0;
+    each = zip_values (IsAddedFor format extras road layers mark) page_of pages adds.0
+        (subst (λ l. AllZip IsAdded l adds.0) (take_all index pages past) adds.1);
+    whole = adds.2;
   }
+
+-- ---- the text of pages
+
+-- a page that is the last one
+last_at : (pages : List Page) (index : ℕ) (page : Page) → suc index ≡ length pages
+    → Some page ≡ slice_get pages index
+    → next_after (page_of page) ≡ next_behind (values_of pages)
+last_at [] index page last is = absurd (omega arith)
+last_at (first ∷ []) zero page last is = ap (λ p. next_after (page_of p)) (same_Some _ _ is)
+last_at (first ∷ []) (suc index) page last is = absurd (omega arith)
+last_at (first ∷ second ∷ pages) zero page last is = absurd (omega arith)
+last_at (first ∷ second ∷ pages) (suc index) page last is =
+    last_at (second ∷ pages) index page (omega arith) is
+
+pub behind_last : (pages : List Page) (page : Page)
+    → Some page ≡ slice_get pages (length pages - 1)
+    → next_after (page_of page) ≡ next_behind (values_of pages)
+behind_last pages page is = grind (arith, last_at, slice_get_within)
+
+none_past : (pages : List Page) (index : ℕ) → None ≡ slice_get pages index → length pages ≤ index
+none_past [] index is = omega arith
+none_past (page ∷ pages) zero is = absurd cc
+none_past (page ∷ pages) (suc index) is = omega (arith, none_past pages index is)
+
+pub behind_none : (pages : List Page) → None ≡ slice_get pages (length pages - 1)
+    → None ≡ next_behind (values_of pages)
+behind_none [] is = refl
+behind_none (page ∷ pages) is = absurd (omega (arith, none_past (page ∷ pages) _ is))
+
+module _ (extras : Extras) (road : RoadMap) (layers : LayersValue) (mark : Option Mark)
+    (pages : List PageValue) where
+  -- texts alone
+  pub texts_of_pages : (format : Format) (output : List ℕ) → (format ≡ GeoJson → ⊥)
+      → AreAddedFor extras format road layers mark pages output
+      → ArePagesIn format extras road layers mark pages output
+  texts_of_pages Text output other is =
+      record { texts = is.texts; each = is.each; whole = is.whole }
+  texts_of_pages Json output other is =
+      record { texts = is.texts; each = is.each; whole = is.whole }
+  texts_of_pages GeoJson output other is = absurd (other refl)
+
+  -- one collection
+  pub collection_of_pages : (format : Format) (added output : List ℕ) → format ≡ GeoJson
+      → AreAddedFor extras format road layers mark pages added
+      → (next : Option KeyValue) (shown : Option Mark) → next ≡ next_behind pages → shown ≡ mark
+      → ((all : List Feature) → added ≡ behind_commas feature_text all
+      → output ≡ collection_text None all (page_members next shown))
+      → ArePagesIn format extras road layers mark pages output
+  collection_of_pages Text added output same is next shown next_is shown_is makes = absurd cc
+  collection_of_pages Json added output same is next shown next_is shown_is makes = absurd cc
+  collection_of_pages GeoJson added output same is next shown next_is shown_is makes =
+      collected extras road layers mark pages added output
+      (rw is.whole (of_pages extras road layers pages is.texts is.each))
+      (λ all features. makes all features
+      ∙ ap (λ n. collection_text None all (page_members n shown)) next_is
+      ∙ ap (λ m. collection_text None all (page_members (next_behind pages) m)) shown_is)

@@ -22,16 +22,16 @@ use Rattle.olr_request.specs.declared.fault.Fault.TheVariants.{InputNotOpened, I
 use Rattle.olr_request.specs.declared.fault.Fault.TheVariants.{NoMemory, OpenFailed, ReadFailed}
 use Rattle.olr_request.specs.declared.fault.Fault.TheVariants.{WriteFailed}
 use Rattle.olr_request.specs.declared.request.Format.{Format}
-use Rattle.olr_request.specs.declared.request.Format.TheVariants.{Json, Text}
+use Rattle.olr_request.specs.declared.request.Format.TheVariants.{Text}
 use Rattle.olr_request.specs.declared.request.Request.{Request}
 use Rattle.olr_request.specs.declared.request.Request.TheVariants.{Candidates, Match, Places, Show, Why}
 
 -- ---- the stages of an answer
 
--- the text of a reference in a format
+-- the text of a reference in a format: JSON where JSON or GeoJSON is asked for
 abbrev pub IsReferenceIn : Format → Reference → List ℕ → Type 0
 IsReferenceIn Text reference text = text ≡ reference_text reference
-IsReferenceIn Json reference text = IsReferenceJson reference text
+IsReferenceIn other reference text = IsReferenceJson reference text
 
 -- the same as a stage, which has no fault
 abbrev pub IsShown : Format → Reference → Result (List ℕ) Fault → Type 0
@@ -41,13 +41,14 @@ IsShown format reference = NoFault (IsReferenceIn format reference)
 -- the same on each map.
 abbrev pub IsAnswerOn : Bool → Request → Accepted → RoadMap → Result (List ℕ) Fault → Type 0
 IsAnswerOn marks (Show text format) accepted road answer = IsShown format accepted.reference answer
-IsAnswerOn marks (Candidates text tolerances detail format) accepted road answer =
-    IsListed detail format tolerances accepted.reference road answer
+IsAnswerOn marks (Candidates text tolerances extras format) accepted road answer =
+    IsListed extras format tolerances accepted.reference road answer
 IsAnswerOn marks (Match asked) accepted road answer = AreMatchings marks asked accepted road answer
 IsAnswerOn marks (Places asked) accepted road answer =
     ArePlaces asked accepted.reference road answer
 IsAnswerOn marks (Why asked) accepted road answer =
-    AreReasons asked.format asked.tolerances asked.nearest accepted.reference road answer
+    AreReasons asked.format asked.shape asked.tolerances asked.nearest accepted.reference road
+    answer
 
 -- The answer of a request on a map that was read before, with marks or without: the bytes of its
 -- output, or the fault of the first stage that has one, which is the refusal of its own texts or

@@ -15,3 +15,4 @@ pub use Rattle.olr_matching.specs.Layers.{AreLayersOn, LayersValue}
 pub use Rattle.olr_base.specs.declared.failure.Failed.{Failed}
 pub use Rattle.olr_places.specs.declared.limits.PlaceLimits.{PlaceLimits}
 pub use Rattle.olr_records.specs.declared.file.File.{File}
+pub use Rattle.olr_request.specs.declared.request.Extras.{Extras}

@@ -3,17 +3,20 @@
 use Rattle.std.specs.Prelude.{◌≡◌, ℕ, Bool, true, false, List, [], ◌∷◌, map, Option, None, Some, IfSome}
 use Rattle.std.specs.Prelude.{Contains, option_map, Result, Ok, Err}
 use Rattle.std.specs.List.{AllZip, concat}
-use Rattle.olr_app.specs.Common.{Reference, Tolerances, IsFingerprint, AreAnswers, KeyValue, CursorRead, Mark, RoadMap, LayersValue, AreLayersOn}
-use Rattle.olr_keys.specs.Headline.{AreAllPages}
+use Rattle.olr_app.specs.Common.{Extras, Reference, Tolerances, IsFingerprint, AreAnswers, KeyValue, CursorRead, Mark, RoadMap, LayersValue, AreLayersOn}
+use Rattle.olr_keys.specs.Headline.{AreAllPages, joined}
 use Rattle.olr_keys.specs.Matching.{IsKey}
 use Rattle.olr_keys.specs.Page.{PageValue, IsPageAfter, page_of}
 use Rattle.olr_keys.specs.declared.pages.Page.{Page}
-use Rattle.olr_app.specs.Page.{IsTextOfPage}
+use Rattle.olr_report.specs.Entries.{AreEntriesAt, Entry}
+use Rattle.olr_report.specs.Text.{next_after}
+use Rattle.olr_app.specs.Page.{IsPageAsAsked, IsTextOfPage}
 use Rattle.olr_app.specs.Stages.{AndThen, NoFault, OrTooMany}
 use Rattle.olr_app.specs.declared.accepting.Accepted.{Accepted}
 use Rattle.olr_request.specs.declared.fault.Fault.{Fault}
 use Rattle.olr_request.specs.declared.fault.Fault.TheVariants.{CursorNotHere, CursorOfOther}
 use Rattle.olr_request.specs.declared.request.Format.{Format}
+use Rattle.olr_request.specs.declared.request.Format.TheVariants.{GeoJson}
 use Rattle.olr_request.specs.declared.request.MatchRequest.{MatchRequest}
 use Rattle.olr_request.specs.declared.request.Pages.{Pages}
 use Rattle.olr_request.specs.declared.request.Pages.TheVariants.{All, One}
@@ -66,13 +69,33 @@ ArePages asked layers start (Err fault) = (fault ≡ CursorNotHere)
 abbrev pub values_of : List Page → List PageValue
 values_of pages = map page_of pages
 
+-- where the pages go on: where the last of them says
+abbrev pub next_behind : List PageValue → Option KeyValue
+next_behind [] = None
+next_behind (page ∷ []) = next_after page
+next_behind (page ∷ next ∷ pages) = next_behind (next ∷ pages)
+
 -- the texts of pages one after the other
-pub record AreTextsOfPages (detail : Bool) (format : Format) (road : RoadMap)
+pub record AreTextsOfPages (extras : Extras) (format : Format) (road : RoadMap)
     (layers : LayersValue) (mark : Option Mark) (pages : List PageValue) (output : List ℕ)
     : Type 0 where
   pub texts : List (List ℕ)
-  pub each : AllZip (IsTextOfPage detail format road layers mark) pages texts
+  pub each : AllZip (IsTextOfPage extras format road layers mark) pages texts
   pub whole : output ≡ concat texts
+
+-- the matchings of pages as one collection of GeoJSON, which goes on where the last page does
+pub record IsCollectionOfPages (extras : Extras) (road : RoadMap) (layers : LayersValue)
+    (mark : Option Mark) (pages : List PageValue) (output : List ℕ) : Type 0 where
+  pub entries : List Entry
+  pub are : AreEntriesAt road layers (joined pages) entries
+  pub text_is : IsPageAsAsked extras.detail extras GeoJson road layers entries
+      (next_behind pages) mark output
+
+-- the text of pages in a format: one collection in GeoJSON, else their texts
+abbrev pub ArePagesIn : Format → Extras → RoadMap → LayersValue → Option Mark → List PageValue
+    → List ℕ → Type 0
+ArePagesIn GeoJson extras road layers = IsCollectionOfPages extras road layers
+ArePagesIn format extras road layers = AreTextsOfPages extras format road layers
 
 -- The mark in the cursors at the ends of these pages. With marks it is the fingerprint of the
 -- inputs, where a page has more; without marks there is none.
@@ -83,17 +106,17 @@ IsMarkOf true text tolerances road pages mark = (its : Mark) × (mark ≡ Some i
     → IsFingerprint text tolerances road its)
 IsMarkOf false text tolerances road pages mark = mark ≡ None
 
--- the output: the texts of the pages, with such a mark
-pub record IsPagesText (detail : Bool) (format : Format) (road : RoadMap) (layers : LayersValue)
+-- the output: the text of the pages, with such a mark
+pub record IsPagesText (extras : Extras) (format : Format) (road : RoadMap) (layers : LayersValue)
     (IsMark : Option Mark → Type 0) (pages : List PageValue) (output : List ℕ) : Type 0 where
   pub mark : Option Mark
   pub is_mark : IsMark mark
-  pub texts : AreTextsOfPages detail format road layers mark pages output
+  pub text_is : ArePagesIn format extras road layers mark pages output
 
 -- the same as a stage, which has no fault
 abbrev pub IsPrinted :
     Bool → MatchRequest → RoadMap → LayersValue → List PageValue → Result (List ℕ) Fault → Type 0
-IsPrinted marks asked road layers pages = NoFault (IsPagesText asked.detail asked.format road layers
+IsPrinted marks asked road layers pages = NoFault (IsPagesText asked.extras asked.format road layers
     (IsMarkOf marks asked.text.now asked.tolerances road pages) pages)
 
 -- ---- all stages after the map, with marks or without

@@ -9,13 +9,15 @@
 //! - [`on_map`]: the output on a map, and [`MapForRequests`], a map that answers one request after the
 //!   other.
 //! - [`listing`]: the text of candidates, by [`listing_json`] where it is JSON and not in detail;
-//!   [`matching`]: the pages of matchings, and [`page`], the text of one; [`places`]: the places, and
-//!   whether the match is unique; [`why`]: why there is no matching.
+//!   [`matching`]: the pages of matchings, and [`page`], what one adds to the output; [`places`]: the
+//!   places, and whether the match is unique; [`why`]: why there is no matching. [`drawing`]: how
+//!   matchings are drawn.
 //! - [`sink`]: where the output goes, and [`writing`], the loops that hand it over.
 #![tactic(auto)]
 
 mod accepting;
 mod answering;
+mod drawing;
 mod listing;
 mod listing_json;
 mod matching;
@@ -32,8 +34,10 @@ pub use olr_likely::PlaceOrder;
 pub use olr_map::{File, In, Source};
 pub use olr_matching::PageSize;
 pub use olr_places::{PlaceLimit, PlaceLimits};
+pub use olr_report::RoutePart;
 pub use olr_request::{
-    Fault, Format, MatchRequest, Pages, PlacesRequest, Question, QuestionKind, Request, WhyRequest,
+    Extras, Fault, Format, MatchRequest, Pages, PlacesRequest, Question, QuestionKind, Request,
+    WhyRequest,
 };
 pub use olr_why::NearestCount;
 pub use on_map::MapForRequests;

@@ -1,18 +1,25 @@
-//! The text of the candidates of a reference's points, in either format, in detail or not.
+//! The text of the candidates of a reference's points, in a format, in detail or not.
 
 ghost use Rattle.std.specs.Prelude.{◌≡◌, IfErr, IfOk, Ok, string_bytes};
 ghost use Rattle.olr_candidates.specs.Points.{AreLists, lists_of};
 ghost use Rattle.olr_text.specs.Texts.{texts_from};
-ghost use Rattle.olr_app.specs.Listing.{IsListed, IsListingAsAsked, candidate_row, point_listing};
+ghost use Rattle.olr_detail.specs.Listing.{details_of};
+ghost use Rattle.olr_report.specs.ShownMap.{map_shown};
+ghost use Rattle.olr_app.specs.Listing.{IsListed, IsListingAsAsked, IsListingIn, IsListingTextWith};
+ghost use Rattle.olr_app.specs.Listing.{candidate_row, point_listing};
+ghost use Rattle.olr_app.specs.Page.{shown_for};
 ghost use Rattle.olr_app.specs.Stages.{IsStageFault};
 
 use crate::listing_json::json_of_lists;
 use arrayvec::ArrayVec;
 use olr_base::NoMemory;
 use olr_candidates::{Candidate, MAX_CANDIDATES, ReferenceOnMap, candidates_of_points};
-use olr_detail::{listing_details, listing_json, listing_text};
-use olr_report::shown_id;
-use olr_request::{Fault, Format};
+use olr_detail::{
+    PointDetails, listing_collection, listing_collection_in_detail, listing_details, listing_json,
+    listing_text,
+};
+use olr_report::{ShownMap, shown_id};
+use olr_request::{Extras, Fault, Format};
 use olr_road::{Map, Place};
 use olr_text::{Decimal, ToText, push_texts};
 use std::alloc::Global;
@@ -63,24 +70,58 @@ fn text_of_lists(
     Ok(text)
 }
 
-/// The candidates of each point, in detail or not, in a format.
+/// The candidates of each point, in a format.
 fn printed_lists(
+    on: &ShownMap<'_>,
+    lists: &[ArrayVec<Candidate, MAX_CANDIDATES>],
+    format: Format,
+) -> Result<String, NoMemory>
+    ensures { IfOk result (λ text.
+        IsListingIn format (map_shown on.now) (lists_of lists.now) (string_bytes text)) }
+{
+    match format {
+        Format::Text => text_of_lists(on.alloc, on.map, lists),
+        Format::Json => json_of_lists(on, lists),
+        Format::GeoJson => listing_collection(on, lists),
+    }
+}
+
+/// The candidates of each point with what speaks for each of them, in a format.
+fn printed_details(
+    on: &ShownMap<'_>,
+    details: &[PointDetails],
+    format: Format,
+) -> Result<String, NoMemory>
+    ensures { IfOk result (λ text.
+        IsListingTextWith format (map_shown on.now) (details_of details.now) (string_bytes text)) }
+{
+    match format {
+        Format::Text => listing_text(on.alloc, on.map, details),
+        Format::Json => listing_json(on, details),
+        Format::GeoJson => listing_collection_in_detail(on, details),
+    }
+}
+
+/// The candidates of each point as they are asked for, in a format.
+fn lists_asked(
     alloc: Global,
     on: &ReferenceOnMap<'_>,
     lists: &[ArrayVec<Candidate, MAX_CANDIDATES>],
-    detail: bool,
+    extras: &Extras,
     format: Format,
 ) -> Result<String, NoMemory>
     requires { AreLists on.now.tolerances on.now.reference.now on.now.map.now.lines
         (lists_of lists.now) }
-    ensures { IfOk result (λ text. IsListingAsAsked detail format on.now.tolerances
-        on.now.reference.now on.now.map.now (lists_of lists.now) (string_bytes text)) }
+    ensures { IfOk result (λ text. IsListingAsAsked extras.now.detail format on.now.tolerances
+        on.now.reference.now (shown_for extras.now on.now.map.now on.now.reference.now)
+        (lists_of lists.now) (string_bytes text)) }
 {
-    match (detail, format) {
-        (false, Format::Text) => text_of_lists(alloc, on.map, lists),
-        (false, Format::Json) => json_of_lists(alloc, on.map, lists),
-        (true, Format::Text) => listing_text(alloc, on.map, &listing_details(alloc, on, lists)?),
-        (true, Format::Json) => listing_json(alloc, on.map, &listing_details(alloc, on, lists)?),
+    let shown = ShownMap::new(alloc, on.map, on.reference, extras.shape);
+    if extras.detail {
+        let details = listing_details(alloc, on, lists)?;
+        printed_details(&shown, &details, format)
+    } else {
+        printed_lists(&shown, lists, format)
     }
 }
 
@@ -93,15 +134,15 @@ fn printed_lists(
 pub(crate) fn listing_of(
     alloc: Global,
     on: &ReferenceOnMap<'_>,
-    detail: bool,
+    extras: &Extras,
     format: Format,
 ) -> Result<String, Fault>
-    ensures text { IfOk result (λ text. IsListed detail format on.now.tolerances
+    ensures text { IfOk result (λ text. IsListed extras.now format on.now.tolerances
         on.now.reference.now on.now.map.now (Ok (string_bytes text))) }
     ensures fault { IfErr result (IsStageFault
-        (IsListed detail format on.now.tolerances on.now.reference.now on.now.map.now)) }
+        (IsListed extras.now format on.now.tolerances on.now.reference.now on.now.map.now)) }
 {
     let lists = candidates_of_points(alloc, on.map, on.reference, &on.tolerances)?;
-    let text = printed_lists(alloc, on, &lists, detail, format)?;
+    let text = lists_asked(alloc, on, &lists, extras, format)?;
     Ok(text)
 }

@@ -8,21 +8,24 @@ ghost use Rattle.olr_fingerprint.specs.Fingerprint.{IsFingerprint};
 ghost use Rattle.olr_keys.specs.Matching.{IsKey};
 ghost use Rattle.olr_keys.specs.Page.{PageValue};
 ghost use Rattle.olr_matching.specs.Searches.{AreSearchesOn};
-ghost use Rattle.olr_app.specs.Matching.{AreLayers, AreMatchings, ArePages, AreTextsOfPages};
-ghost use Rattle.olr_app.specs.Matching.{IsMarkOf, IsStartHere, key_of, values_of};
+ghost use Rattle.olr_app.specs.Matching.{AreLayers, AreMatchings, ArePages, ArePagesIn};
+ghost use Rattle.olr_app.specs.Matching.{IsMarkOf, IsStartHere, key_of, next_behind, values_of};
 ghost use Rattle.olr_app.specs.Stages.{IsStageFault};
+ghost use Rattle.olr_app.specs.inner.Added.{AreAddedFor};
 
 use crate::accepting::Accepted;
-use crate::page::text_of_page;
+use crate::page::added_for_page;
 use olr_base::NoMemory;
 use olr_binary::Reference;
 use olr_candidates::{ReferenceOnMap, Tolerances};
+use olr_detail::page_collection;
 use olr_fingerprint::fingerprint;
 use olr_matching::{
     CursorRead, Key, Layers, Mark, Page, Routes, Searches, TotalsFinder, all_pages, page,
     same_inputs,
 };
-use olr_request::{Fault, MatchRequest, Pages};
+use olr_report::next_after;
+use olr_request::{Fault, Format, MatchRequest, Pages};
 use olr_road::Map;
 use std::alloc::Global;
 
@@ -174,7 +177,39 @@ fn mark_of(
     Ok(Some(mark))
 }
 
-/// The texts of pages as they are asked for, one after the other.
+/// What pages add to the output as they are asked for, one after the other.
+fn added_for_pages(
+    alloc: Global,
+    routes: &mut Routes<'_>,
+    pages: &[Page],
+    mark: &Option<Mark>,
+    asked: &MatchRequest<'_>,
+) -> Result<String, NoMemory>
+    requires { All (λ page. All (IsKey routes.old.layers.penalties) page.keys.items) pages.now }
+    ensures { IfOk result (λ output. AreAddedFor asked.now.extras asked.now.format
+        routes.old.road routes.old.layers mark.now (values_of pages.now) (string_bytes output)) }
+{
+    let mut output = String::new(alloc);
+    for page in pages {
+        let added = added_for_page(alloc, routes, page, mark.as_ref(), asked)?;
+        output.push_str(&added)?;
+    }
+    Ok(output)
+}
+
+/// The key after which further matchings follow behind pages: that of the last one.
+#[tactic(auto, using(crate::proofs::PagesOf::behind_last, crate::proofs::PagesOf::behind_none))]
+fn next_behind(pages: &[Page]) -> Option<&Key>
+    ensures { option_map (λ key. key.now) result ≡ next_behind (values_of pages.now) }
+{
+    let Some(page) = pages.last() else {
+        return None;
+    };
+    next_after(page)
+}
+
+/// The text of pages as they are asked for: their texts, one after the other, or in GeoJSON one
+/// collection of their matchings.
 fn text_of_pages(
     alloc: Global,
     routes: &mut Routes<'_>,
@@ -183,15 +218,14 @@ fn text_of_pages(
     asked: &MatchRequest<'_>,
 ) -> Result<String, NoMemory>
     requires { All (λ page. All (IsKey routes.old.layers.penalties) page.keys.items) pages.now }
-    ensures { IfOk result (λ output. AreTextsOfPages asked.now.detail asked.now.format
+    ensures { IfOk result (λ output. ArePagesIn asked.now.format asked.now.extras
         routes.old.road routes.old.layers mark.now (values_of pages.now) (string_bytes output)) }
 {
-    let mut output = String::new(alloc);
-    for page in pages {
-        let text = text_of_page(alloc, routes, page, mark.as_ref(), asked)?;
-        output.push_str(&text)?;
-    }
-    Ok(output)
+    let added = added_for_pages(alloc, routes, pages, mark, asked)?;
+    let Format::GeoJson = asked.format else {
+        return Ok(added);
+    };
+    page_collection(alloc, &added, next_behind(pages), mark.as_ref())
 }
 
 /// The text of the pages of matchings that are asked for. Where `marks` is false, the cursors at

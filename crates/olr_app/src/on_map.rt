@@ -30,7 +30,7 @@ pub(crate) fn printed_reference(
 {
     match format {
         Format::Text => show_text(alloc, reference),
-        Format::Json => show_json(alloc, reference),
+        Format::Json | Format::GeoJson => show_json(alloc, reference),
     }
 }
 
@@ -129,7 +129,7 @@ impl<'a> MapForRequests<'a> {
             Request::Candidates {
                 text: _,
                 tolerances,
-                detail,
+                extras,
                 format,
             } => {
                 let on = ReferenceOnMap {
@@ -137,7 +137,7 @@ impl<'a> MapForRequests<'a> {
                     reference,
                     tolerances: *tolerances,
                 };
-                listing_of(alloc, &on, *detail, *format)
+                listing_of(alloc, &on, extras, *format)
             }
             Request::Match(asked) => matchings_of(alloc, map, marks, asked, accepted),
             Request::Places(asked) => places_listing(alloc, map, asked, reference),

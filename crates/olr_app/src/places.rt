@@ -1,30 +1,35 @@
-//! The places of a reference on a map, and whether its match is unique, in either format.
+//! The places of a reference on a map, and whether its match is unique, in a format.
 
 ghost use Rattle.std.specs.Prelude.{IfErr, IfOk, Ok, string_bytes};
 ghost use Rattle.olr_binary.specs.Reference.{IsReference};
 ghost use Rattle.olr_app.specs.Places.{ArePlaces, IsPlacesIn};
 ghost use Rattle.olr_app.specs.Stages.{IsStageFault};
 
+use crate::drawing::drawing_for;
 use crate::matching::layers_of;
 use olr_base::NoMemory;
 use olr_binary::Reference;
-use olr_likely::{ShownPlaces, places_asked, shown_json, shown_text};
+use olr_likely::{ShownPlaces, places_asked, shown_geojson, shown_json, shown_text};
 use olr_request::{Fault, Format, PlacesRequest};
 use olr_road::Map;
 use std::alloc::Global;
 
-/// Places in a format.
+/// Places as they are asked for.
 fn printed_places(
     alloc: Global,
     map: &Map,
+    reference: &Reference,
     shown: &ShownPlaces,
-    format: Format,
+    asked: &PlacesRequest<'_>,
 ) -> Result<String, NoMemory>
-    ensures { IfOk result (λ text. IsPlacesIn format map.now shown.now (string_bytes text)) }
+    ensures { IfOk result (λ text. IsPlacesIn asked.now.format asked.now.extras map.now
+        reference.now shown.now (string_bytes text)) }
 {
-    match format {
+    let drawing = drawing_for(alloc, map, reference, &asked.extras);
+    match asked.format {
         Format::Text => shown_text(alloc, map, shown),
-        Format::Json => shown_json(alloc, map, shown),
+        Format::Json => shown_json(&drawing.on, shown),
+        Format::GeoJson => shown_geojson(&drawing, shown),
     }
 }
 
@@ -47,8 +52,8 @@ pub(crate) fn places_listing(
     ensures fault { IfErr result (IsStageFault (ArePlaces asked.now reference.now map.now)) }
 {
     let (layers, searches) = layers_of(alloc, map, reference, &asked.tolerances)?;
-    let (order, detail) = (asked.order, asked.detail);
+    let (order, detail) = (asked.order, asked.extras.detail);
     let shown = places_asked(alloc, map, &layers, searches, &asked.limits, order, detail)?;
-    let output = printed_places(alloc, map, &shown, asked.format)?;
+    let output = printed_places(alloc, map, reference, &shown, asked)?;
     Ok(output)
 }

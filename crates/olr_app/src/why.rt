@@ -1,4 +1,4 @@
-//! Why a reference has no matching on a map, or that it has one, in either format.
+//! Why a reference has no matching on a map, or that it has one, in a format.
 
 ghost use Rattle.std.specs.Prelude.{◌≡◌, [], IfErr, IfOk, MatchOption, Ok, string_bytes};
 ghost use Rattle.olr_binary.specs.Reference.{IsReference};
@@ -15,14 +15,20 @@ use olr_road::Map;
 use olr_why::{Why, why_json, why_of, why_text};
 use std::alloc::Global;
 
-/// Reasons in a format.
-fn printed_why(alloc: Global, map: &Map, why: &Why, format: Format) -> Result<String, NoMemory>
+/// Reasons in a format, with the spots of lines or without.
+fn printed_why(
+    alloc: Global,
+    map: &Map,
+    why: &Why,
+    format: Format,
+    spots: bool,
+) -> Result<String, NoMemory>
     ensures { IfOk result (λ text.
-        IsWhyIn format map.now (why_value why.now) (string_bytes text)) }
+        IsWhyIn format spots map.now (why_value why.now) (string_bytes text)) }
 {
     match format {
         Format::Text => why_text(alloc, map, why),
-        Format::Json => why_json(alloc, map, why),
+        Format::Json | Format::GeoJson => why_json(alloc, map, why, spots),
     }
 }
 
@@ -43,14 +49,15 @@ pub(crate) fn reasons_of(
     requires reference { IsReference reference.now }
     requires unbanned { MatchOption unbanned (map.now.bans ≡ [])
         (λ other. IsUnbanned map.now other.now) }
-    ensures reasons { IfOk result (λ output. AreReasons asked.now.format asked.now.tolerances
-        asked.now.nearest reference.now map.now (Ok (string_bytes output))) }
-    ensures fault { IfErr result (IsStageFault (AreReasons asked.now.format asked.now.tolerances
-        asked.now.nearest reference.now map.now)) }
+    ensures reasons { IfOk result (λ output. AreReasons asked.now.format asked.now.shape
+        asked.now.tolerances asked.now.nearest reference.now map.now (Ok (string_bytes output))) }
+    ensures fault { IfErr result (IsStageFault (AreReasons asked.now.format asked.now.shape
+        asked.now.tolerances asked.now.nearest reference.now map.now)) }
 {
     let WhyRequest {
         tolerances,
         nearest,
+        shape,
         format,
         ..
     } = asked;
@@ -60,6 +67,6 @@ pub(crate) fn reasons_of(
         tolerances: *tolerances,
     };
     let why = why_of(alloc, &on, unbanned, *nearest)?;
-    let output = printed_why(alloc, map, &why, *format)?;
+    let output = printed_why(alloc, map, &why, *format, *shape)?;
     Ok(output)
 }

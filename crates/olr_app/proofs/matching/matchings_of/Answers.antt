@@ -1,4 +1,4 @@
-use Rattle.olr_app.proofs.Common.{Mark, Page, AreLayers, ArePages, AreTextsOfPages, IsPrinted, IsStartHere, OnLayers, OnStart, values_of, List, Option, subst, string_bytes, IsMarkOf, IsPagesText}
+use Rattle.olr_app.proofs.Common.{Mark, Page, AreLayers, ArePages, ArePagesIn, IsPrinted, IsStartHere, OnLayers, OnStart, values_of, List, Option, subst, string_bytes, IsMarkOf, IsPagesText}
 use Rattle.olr_app.proofs.PagesOf.{keys_of_pages}
 use Rattle.olr_app.proofs.PagesOf.{fault_after, fault_here}
 use Rattle.olr_app.proofs.Single.{exit}
@@ -60,13 +60,13 @@ returns-clause-text c =
     let pages = c.in_ok-pages.pages.items in
     let IsMark : List Page → Option Mark → Type 0 =
     λ list. IsMarkOf marks asked.text.now asked.tolerances road (values_of list) in
-    let shown : IsPagesText asked.detail asked.format road layers (IsMark pages) (values_of pages) output =
+    let shown : IsPagesText asked.extras asked.format road layers (IsMark pages) (values_of pages) output =
     record {
       mark = c.in_ok-mark.mark;
       is_mark = subst (λ list. IsMark list c.in_ok-mark.mark) c.deref.ensures.value
           c.in_ok-mark.ensures;
-      texts = subst (λ list.
-          AreTextsOfPages asked.detail asked.format road layers c.in_ok-mark.mark (values_of list) output)
+      text_is = subst (λ list.
+          ArePagesIn asked.format asked.extras road layers c.in_ok-mark.mark (values_of list) output)
           c.deref-2.ensures.value (rw c.with_searches-routes.ensures at c.in_ok-output.ensures);
     } in (
       c.args.accepted.now.start,

@@ -1,20 +1,18 @@
-use Rattle.std.proofs.Common.{◌++◌, ap, ◌∙◌, string_bytes}
-use Rattle.olr_app.proofs.PagesOf.{one_more, all_pages_shown}
+use Rattle.std.proofs.lemmas.Result.{IfOk-weaker}
+use Rattle.olr_app.proofs.Common.{string_bytes, values_of, ◌∙◌}
+use Rattle.olr_app.proofs.PagesOf.{collection_of_pages, texts_of_pages}
 use Rattle.olr_app.proofs.matching.text_of_pages.Goals as goal
 
-pub loop-page-preserved : goal.loop-page-preserved
-loop-page-preserved c =
-    let before = c.loop-page.invariant in
-    let grown = c.in_ok-push_str.ensures.bytes
-    ∙ ap (λ more. string_bytes c.loop-page.output ++ more) c.deref.ensures in (
-      c.text_of_page.ensures.same ∙ before.0,
-      one_more _ _ _ _ _ c.args.pages.now c.loop-page.page-index _ (string_bytes c.loop-page.output) _
-          _ c.loop-page-test.true c.page-item.is before.1
-          (rw (before.0, c.as_ref.ensures.value) at c.in_ok-text.ensures.text) grown,
-    )
+pub returns-in_default : goal.returns-in_default
+returns-in_default c = texts_of_pages _ _ _ _ _ _ _ c.in_default.not-GeoJson c.in_ok-added.ensures
 
 pub returns : goal.returns
 returns c =
-    all_pages_shown _ _ _ _ _ c.args.pages.now c.loop-page.page-index
-    (string_bytes c.loop-page.output)
-    c.loop-page-test.false c.loop-page.invariant.1
+    let routes = c.args.routes.now in
+    let asked = c.args.asked.now in
+    IfOk-weaker c.page_collection.result _ _
+    (λ output makes. collection_of_pages asked.extras routes.road routes.layers c.args.mark.now
+    (values_of c.args.pages.now) asked.format (string_bytes c.in_ok-added.added)
+    (string_bytes output) c.in-GeoJson.is c.in_ok-added.ensures _ _
+    c.next_behind.ensures c.as_ref.ensures.value (λ all is. makes all (c.deref.ensures ∙ is)))
+    c.page_collection.ensures

@@ -1,5 +1,11 @@
-use Rattle.olr_app.proofs.PagesOf.{text_of_parts}
-use Rattle.olr_app.proofs.page.text_of_page.Goals as goal
+use Rattle.olr_app.proofs.PagesOf.{added_of_parts}
+use Rattle.olr_app.proofs.page.added_for_page.Goals as goal
+
+pub page_of_parts-requires-clause-reference : goal.page_of_parts-requires-clause-reference
+page_of_parts-requires-clause-reference c = rw (
+  c.reference.ensures,
+  c.layers-layers.ensures.layers,
+) c.layers-layers.ensures.on_map.reference
 
 pub page_of_parts-requires-clause-one_each : goal.page_of_parts-requires-clause-one_each
 page_of_parts-requires-clause-one_each c =
@@ -15,16 +21,16 @@ page_of_parts-requires-clause-shown c = rw (
   c.matched_on_page.ensures.same,
 ) c.in_ok-matched.ensures.shown
 
-pub returns-clause-text : goal.returns-clause-text
-returns-clause-text c =
+pub returns-clause-added : goal.returns-clause-added
+returns-clause-added c =
     let routes = c.args.routes.now in
     let asked = c.args.asked.now in
-    text_of_parts routes.road routes.layers asked.detail asked.format _
-    c.in_ok-matched.ensures.each (rw (
+    added_of_parts asked.extras routes.road routes.layers _ _ c.in_ok-matched.ensures.each
+    asked.format _ _ (rw (
       c.deref.ensures.value,
       c.tolerances.ensures,
       c.reference.ensures,
       c.map.ensures,
       c.layers-layers.ensures.layers,
       c.matched_on_page.ensures.same,
-    ) at c.in_ok-text.ensures)
+    ) at c.in_ok-added.ensures)
