@@ -18,10 +18,10 @@ use Rattle.olr_words.specs.declared.words.Records.TheVariants.{References}
 accepted_alone : (what : QuestionKind) (tolerances : Tolerances) (text : Bor (List ℕ))
     → IsAccepted (asked_alone what tolerances text)
     → IsAccepted (asked_alone what tolerances (at_bytes text.now))
-accepted_alone (Candidates detail) tolerances text is = is
-accepted_alone (Match size detail) tolerances text is = is
-accepted_alone (Places limits order detail) tolerances text is = is
-accepted_alone (Why nearest) tolerances text is = is
+accepted_alone (Candidates extras) tolerances text is = is
+accepted_alone (Match size extras) tolerances text is = is
+accepted_alone (Places limits order extras) tolerances text is = is
+accepted_alone (Why nearest shape) tolerances text is = is
 
 module _ (question : Question) (road : RoadMap) (text : Bor (List ℕ)) where
   abbrev here : Request

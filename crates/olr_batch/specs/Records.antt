@@ -1,7 +1,5 @@
 -- What is written for the records of an input, on a map that is read. LF is the byte 10.
-use Rattle.std.specs.Prelude.{◌≡◌, ℕ, ◌+◌, ◌⊎◌, List, [], ◌∷◌, ◌++◌, Option, None, Some, codes}
-use Rattle.serde_json.specs.Data.{Data, null}
-use Rattle.serde_json.specs.Written.{compact_text}
+use Rattle.std.specs.Prelude.{◌≡◌, ℕ, ◌+◌, ◌-◌, ◌⊎◌, List, [], ◌∷◌, length, take, Option, None, Some, codes}
 use Rattle.olr_road.specs.RoadMap.{RoadMap}
 use Rattle.olr_messages.specs.Content.{IsMessageOfLine, Message}
 use Rattle.olr_messages.specs.Content as message
@@ -13,14 +11,18 @@ use Rattle.olr_words.specs.declared.words.Records.{Records}
 
 -- the line of a record that has a fault in place of an answer
 abbrev pub fault_line : List ℕ → Option (List ℕ) → ℕ → List ℕ
-fault_line name key number = line_text null (Some name) key number
+fault_line name key number = line_text (codes "null") (Some name) key number
+
+-- an output without its last byte, which is its line feed
+abbrev pub without_line_feed : List ℕ → List ℕ
+without_line_feed output = take (length output - 1) output
 
 module _ (records : Records) (road : RoadMap) where
   -- The line of a record with a text: it has the answer to the text, or the fault in place of it.
   abbrev pub IsLineOfText : ℕ → Option (List ℕ) → List ℕ → List ℕ → Type 0
   IsLineOfText number key text line =
-      ((value : Data) × IsReply records road text (compact_text value ++ codes "\n")
-      × (line ≡ line_text value None key number))
+      ((answer : List ℕ) × IsReply records road text answer
+      × (line ≡ line_text (without_line_feed answer) None key number))
       ⊎ ((fault : RecordFault) × IsFaultFor records road text fault
       × (line ≡ fault_line (record_fault_text fault) key number))
 

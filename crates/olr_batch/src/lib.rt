@@ -9,15 +9,18 @@
 //!   on a map that was read before.
 //! - [`batch`]: [`run_batch`], all of this from the files of a map to the output.
 //!
-//! That the answer to a reference is what [`run`](olr_app::run) prints for it alone, but for the mark
-//! in a cursor, is a law of `olr_app_laws`.
+//! Beside them, [`laws`] says what the line of a record is as JSON. That the answer to a reference is
+//! what [`run`](olr_app::run) prints for it alone, but for the mark in a cursor, is a law of
+//! `olr_app_laws`.
 #![tactic(auto)]
 
 mod answering;
 mod batch;
+mod laws;
 mod line;
 mod record;
 mod reply;
 
 pub use answering::answer_records;
 pub use batch::run_batch;
+pub use laws::json_answers_are_members;

@@ -1,8 +1,6 @@
 //! The line of a record: one JSON object and a line feed.
 
 ghost use Rattle.std.specs.Prelude.{◌≡◌, ◌++◌, ◌∷◌, [], OnOk};
-ghost use Rattle.serde_json.specs.Data.{Data};
-ghost use Rattle.serde_json.specs.Written.{compact_text};
 ghost use Rattle.json.specs.Print.{print};
 ghost use Rattle.olr_batch.specs.Line.{bytes_of, line_text, text_token, tokens_behind};
 
@@ -70,9 +68,8 @@ fn push_members(alloc: Global, text: &mut Vec<u8>, line: &Line<'_>) -> Result<()
 /// for no memory.
 #[tactic(auto, using(crate::proofs::Tokens::line_is))]
 pub(crate) fn write_line(alloc: Global, text: &mut Vec<u8>, line: &Line<'_>) -> Result<(), NoMemory>
-    ensures { OnOk result ((answer : Data) → line.now.answer.now ≡ compact_text answer
-        → text.new.items ≡ line_text answer (bytes_of line.now.fault)
-        (bytes_of line.now.key) line.now.record) }
+    ensures { OnOk result (text.new.items ≡ line_text line.now.answer.now
+        (bytes_of line.now.fault) (bytes_of line.now.key) line.now.record) }
 {
     text.clear();
     text.extend_from_slice(b"{\"answer\":")?;

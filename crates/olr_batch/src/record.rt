@@ -1,14 +1,12 @@
 //! What is written for a record.
 
-ghost use Rattle.std.specs.Prelude.{◌≡◌, ◌++◌, ℕ, List, None, IfErr, IfOk, OnOk, codes};
+ghost use Rattle.std.specs.Prelude.{◌≡◌, None, IfErr, IfOk, OnOk, codes};
 ghost use Rattle.olr_request.specs.Fault.{fault_text};
 ghost use Rattle.olr_words.specs.Record.{record_fault_text};
 ghost use Rattle.olr_messages.specs.Content.{message_of};
-ghost use Rattle.serde_json.specs.Data.{Data};
-ghost use Rattle.serde_json.specs.Written.{compact_text};
 ghost use Rattle.olr_batch.specs.Answers.{IsFaultFor};
 ghost use Rattle.olr_batch.specs.Line.{bytes_of, line_text};
-ghost use Rattle.olr_batch.specs.Records.{IsLineOfText, IsWrittenFor, fault_line};
+ghost use Rattle.olr_batch.specs.Records.{IsLineOfText, IsWrittenFor, fault_line, without_line_feed};
 
 use crate::line::{Line, write_line};
 use crate::reply::RecordsOnMap;
@@ -49,13 +47,13 @@ fn write_fault(
     Ok(())
 }
 
-/// A text without its last byte, which is its line feed.
-fn without_line_feed(line: &[u8]) -> &[u8]
-    ensures { (text : List ℕ) → line.now ≡ text ++ codes "\n" → result.now ≡ text }
+/// An output without its last byte, which is its line feed.
+fn without_line_feed(output: &[u8]) -> &[u8]
+    ensures { result.now ≡ without_line_feed output.now }
 {
-    match line.split_last() {
+    match output.split_last() {
         Some((_, text)) => text,
-        None => line,
+        None => output,
     }
 }
 
@@ -66,9 +64,8 @@ fn write_found<'a>(
     answer: &'a str,
     line: &mut Vec<u8>,
 ) -> Result<(), NoMemory>
-    ensures { OnOk result ((value : Data) → answer.now ≡ compact_text value ++ codes "\n"
-        → line.new.items
-        ≡ line_text value None (bytes_of name.entry.key) name.entry.number) }
+    ensures { OnOk result (line.new.items ≡ line_text (without_line_feed answer.now) None
+        (bytes_of name.entry.key) name.entry.number) }
 {
     let shown = Line {
         answer: without_line_feed(answer.as_bytes()),

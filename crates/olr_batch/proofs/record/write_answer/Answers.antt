@@ -1,4 +1,5 @@
-use Rattle.olr_batch.proofs.Common.{string_bytes, ◌∙◌, bytes_of}
+use Rattle.olr_batch.proofs.Common.{string_bytes, ◌∙◌, ℕ, List, None, ap, bytes_of, line_text}
+use Rattle.olr_batch.specs.Records.{without_line_feed}
 use Rattle.olr_batch.proofs.Lines.{found_line}
 use Rattle.olr_batch.proofs.record.write_answer.Goals as goal
 
@@ -6,4 +7,6 @@ pub returns-clause-line : goal.returns-clause-line
 returns-clause-line c =
     found_line c.args.on.now.records.now c.args.on.now.map.map.now c.args.text.now c.args.name.number
     (bytes_of c.args.name.key) (string_bytes c.in_ok-answer.answer) _ c.in_ok-answer.ensures.answer
-    (λ value is. c.in_ok-write_found.ensures value (c.deref.ensures ∙ is))
+    (c.in_ok-write_found.ensures
+    ∙ ap (λ (answer : List ℕ). line_text (without_line_feed answer) None
+    (bytes_of c.args.name.key) c.args.name.number) c.deref.ensures)
