@@ -9,18 +9,18 @@ use Rattle.olr_request.specs.declared.question.QuestionKind.TheVariants.{Candida
 -- what is asked of a record is asked of a map
 reads_map : (what : QuestionKind) (tolerances : Tolerances) (text : Bor (List ℕ))
     → ReadsMap (asked_alone what tolerances text)
-reads_map (Candidates detail) tolerances text = tt
-reads_map (Match size detail) tolerances text = tt
-reads_map (Places limits order detail) tolerances text = tt
-reads_map (Why nearest) tolerances text = tt
+reads_map (Candidates extras) tolerances text = tt
+reads_map (Match size extras) tolerances text = tt
+reads_map (Places limits order extras) tolerances text = tt
+reads_map (Why nearest shape) tolerances text = tt
 
 same_answer : (what : QuestionKind) (tolerances : Tolerances) (text : Bor (List ℕ)) (road : RoadMap)
     (output answer : List ℕ) → IsSameOutput (asked_alone what tolerances text) road output answer
     → IsSameAnswer what road output answer
-same_answer (Candidates detail) tolerances text road output answer is = is
-same_answer (Match size detail) tolerances text road output answer is = is None refl refl
-same_answer (Places limits order detail) tolerances text road output answer is = is
-same_answer (Why nearest) tolerances text road output answer is = is
+same_answer (Candidates extras) tolerances text road output answer is = is
+same_answer (Match size extras) tolerances text road output answer is = is None refl
+same_answer (Places limits order extras) tolerances text road output answer is = is
+same_answer (Why nearest shape) tolerances text road output answer is = is
 
 module _ (laws : LawsBelow) where
   pub one_answer : OneAnswer

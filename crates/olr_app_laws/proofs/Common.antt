@@ -15,8 +15,10 @@ pub use Rattle.olr_app.specs.Page.{IsPageAsAsked, IsPageIn, IsPageTextWith, IsTe
 pub use Rattle.olr_app.specs.Stages.{AndThen}
 pub use Rattle.olr_app.specs.declared.accepting.Accepted.{Accepted}
 pub use Rattle.olr_app_laws.specs.AnswerLaws.{FaultIsOfRun, IsSameOutput, OneAnswerOfMany, OutputIsOfRun, ShowsSame}
-pub use Rattle.olr_app_laws.specs.Headline.{AllPages, AreSame, AreShown, EachHasCursor, FollowEachOther, GoOn, GoesOnHere, HasSize, Headline, Inputs, IsCursorHere, IsRunAt, Matchings, Names, NoneRefused, RefusedByName, Run, RunsEnd, SizesAgree, files_of, joined, joined_outputs, request_of}
-pub use Rattle.olr_app_laws.specs.HeadlineOutputs.{ArePartsOf, AreRows, IsLastRow, IsObject, IsRow, Part, Shows, detailed_parts_of, last_row_of, next_of, parts_of}
+pub use Rattle.olr_app_laws.specs.Headline.{AllAsOne, AllPages, AreSame, AreShown, EachHasCursor, FollowEachOther, GoOn, GoesOnHere, HasSize, Headline, Inputs, IsCursorHere, IsRunAt, Matchings, Names, NoneRefused, RefusedByName, Run, RunsEnd, SizesAgree, files_of, joined, joined_outputs, request_of}
+pub use Rattle.olr_app.specs.Common.{Extras}
+pub use Rattle.olr_app.specs.Page.{shown_for}
+pub use Rattle.olr_app_laws.specs.HeadlineOutputs.{ArePartsOf, AreRows, IsLastRow, IsObject, IsRow, Joinable, Part, Shows, as_json, as_text, detailed_parts_of, format_of, last_row_of, next_of, parts_of}
 pub use Rattle.olr_app_laws.specs.Laws.{Laws}
 pub use Rattle.olr_binary.specs.Outcome.{IsOutcome}
 pub use Rattle.olr_binary.specs.declared.reference.Reference.{Reference}
@@ -44,7 +46,7 @@ pub use Rattle.olr_request.specs.Fault.{fault_of_map, fault_of}
 pub use Rattle.olr_request.specs.Request.{ReadsMap, at_bytes, bytes_of, cursor_in, text_of}
 pub use Rattle.olr_request.specs.declared.fault.Fault.TheVariants.{TooManyCandidates}
 pub use Rattle.olr_request.specs.declared.fault.Fault.{Fault}
-pub use Rattle.olr_request.specs.declared.request.Format.TheVariants.{Json, Text}
+pub use Rattle.olr_request.specs.declared.request.Format.TheVariants.{GeoJson, Json, Text}
 pub use Rattle.olr_request.specs.declared.request.Format.{Format}
 pub use Rattle.olr_request.specs.declared.request.MatchRequest.{MatchRequest}
 pub use Rattle.olr_request.specs.declared.request.Pages.TheVariants.{One}

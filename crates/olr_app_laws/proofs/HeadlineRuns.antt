@@ -1,5 +1,5 @@
 -- What one run prints: a page of the matchings that the inputs determine.
-use Rattle.olr_app_laws.proofs.Common.{IsOutcome, Reference, IsFingerprint, AreAnswers, KeyValue, IsPageAfter, PageValue, CursorRead, Mark, RoadMap, LayersValue, IsStart, IsOutput, OneOutcome, IsTextOfPage, key_of, bytes_of, Accepted, Format, MatchRequest, One, Match, ◌≡◌, ℕ, ◌≤◌, List, Option, None, Some, Ok, true, refl, sym, ap, ◌∙◌, subst, arith, Laws, AreSame, Inputs, IsRunAt, Matchings, Names, Run, files_of, request_of, on_map, same_ok}
+use Rattle.olr_app_laws.proofs.Common.{IsOutcome, Reference, IsFingerprint, AreAnswers, KeyValue, IsPageAfter, PageValue, CursorRead, Mark, RoadMap, LayersValue, IsStart, IsOutput, OneOutcome, IsTextOfPage, key_of, bytes_of, Accepted, Joinable, format_of, MatchRequest, One, Match, ◌≡◌, ℕ, ◌≤◌, List, Option, None, Some, Ok, true, refl, sym, ap, ◌∙◌, subst, arith, Laws, AreSame, Inputs, IsRunAt, Matchings, Names, Run, files_of, request_of, on_map, same_ok}
 
 -- ---- the inputs determine the matchings
 
@@ -32,7 +32,7 @@ one_facts laws inputs a b =
 -- ---- a page of the matchings
 
 -- the page after the matching that a cursor names, or the first page, and its text
-pub record PrintsPage (format : Format) (inputs : Inputs) (facts : Facts)
+pub record PrintsPage (format : Joinable) (inputs : Inputs) (facts : Facts)
     (cursor : Option (List ℕ)) (output : List ℕ) : Type 0 where
   pub named : Option KeyValue
   pub names : Names cursor named
@@ -42,7 +42,8 @@ pub record PrintsPage (format : Format) (inputs : Inputs) (facts : Facts)
   pub is_page : IsPageAfter facts.keys named size page
   pub mark : Mark
   pub marked : page.more ≡ true → IsFingerprint inputs.text inputs.tolerances facts.road mark
-  pub is_text : IsTextOfPage inputs.detail format facts.road facts.layers (Some mark) page output
+  pub is_text : IsTextOfPage inputs.extras (format_of format) facts.road facts.layers (Some mark)
+      page output
 
 -- ---- the stages of an answer
 
@@ -55,16 +56,16 @@ start_names (Some text) start is = (is.0, ap key_of is.1, is.2)
 -- ---- a run
 
 -- the matchings of the inputs, and the page of them that a run prints
-record Printed (format : Format) (inputs : Inputs) (cursor : Option (List ℕ)) (output : List ℕ)
+record Printed (format : Joinable) (inputs : Inputs) (cursor : Option (List ℕ)) (output : List ℕ)
     : Type 0 where
   all : Matchings inputs
   page : PrintsPage format inputs (facts_of all) cursor output
 
-prints : (format : Format) (inputs : Inputs) (cursor : Option (List ℕ)) (run : Run format)
+prints : (format : Joinable) (inputs : Inputs) (cursor : Option (List ℕ)) (run : Run format)
     → IsRunAt inputs cursor run → Printed format inputs cursor run.output
 prints format inputs cursor run is =
     let asks = is.asks in
-    let asked : MatchRequest = request_of inputs asks.text asks.size (One asks.begins) format in
+    let asked : MatchRequest = request_of inputs asks.text asks.size (One asks.begins) (format_of format) in
     let output : IsOutput (files_of inputs) (Match asked) run.output =
     subst (λ request. IsOutput (files_of inputs) request run.output) asks.request_is is.writes in
     let accepted : Accepted = output.0 in
@@ -95,18 +96,18 @@ prints format inputs cursor run is =
             IsFingerprint text inputs.tolerances output.2.0 on.is_mark.0) asks.text_is
             (on.is_mark.2 on.page (0, omega arith, refl) more);
         is_text = subst (λ mark.
-            IsTextOfPage inputs.detail format output.2.0 on.layers mark on.page run.output)
+            IsTextOfPage inputs.extras (format_of format) output.2.0 on.layers mark on.page run.output)
             on.is_mark.1 on.is_text;
       };
     }
 
 -- the matchings of a run's inputs
-pub matchings_of_run : {format : Format} {inputs : Inputs} {cursor : Option (List ℕ)}
+pub matchings_of_run : {format : Joinable} {inputs : Inputs} {cursor : Option (List ℕ)}
     {run : Run format} → IsRunAt inputs cursor run → Matchings inputs
 matchings_of_run {format} {inputs} {cursor} {run} is = (prints _ _ _ _ is).all
 
 -- a run prints a page of the matchings of its inputs
-pub run_prints : Laws → {format : Format} {inputs : Inputs} (all : Matchings inputs)
+pub run_prints : Laws → {format : Joinable} {inputs : Inputs} (all : Matchings inputs)
     {cursor : Option (List ℕ)} {run : Run format} → IsRunAt inputs cursor run
     → PrintsPage format inputs (facts_of all) cursor run.output
 run_prints laws {format} {inputs} all {cursor} {run} is =

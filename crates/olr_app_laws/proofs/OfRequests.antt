@@ -108,8 +108,8 @@ module _ (laws : LawsBelow) where
           → IsAnswerOfMany road request (Ok answer) → IsSameOutput request road output answer
       output_of_run (Show text format) output answer run is = same_ok
           (laws.one road (Show text format) is_map.sound (Ok answer) (Ok output) is run)
-      output_of_run (Candidates text tolerances detail format) output answer run is =
-          laws.output nodes lines bans road (Candidates text tolerances detail format) output answer
+      output_of_run (Candidates text tolerances extras format) output answer run is =
+          laws.output nodes lines bans road (Candidates text tolerances extras format) output answer
           is_map tt run is
       output_of_run (Match asked) output answer run is =
           laws.output nodes lines bans road (Match asked) output answer is_map tt run is
@@ -122,8 +122,8 @@ module _ (laws : LawsBelow) where
           → IsAnswerOfRun (known nodes lines bans) request (Err why)
           ↔ IsAnswerOfMany road request (Err why)
       fault_of_run (Show text format) why = (λ is. is, λ is. is)
-      fault_of_run (Candidates text tolerances detail format) why =
-          laws.fault nodes lines bans road (Candidates text tolerances detail format) why is_map tt
+      fault_of_run (Candidates text tolerances extras format) why =
+          laws.fault nodes lines bans road (Candidates text tolerances extras format) why is_map tt
       fault_of_run (Match asked) why = laws.fault nodes lines bans road (Match asked) why is_map tt
       fault_of_run (Places asked) why = laws.fault nodes lines bans road (Places asked) why is_map tt
       fault_of_run (Why asked) why = laws.fault nodes lines bans road (Why asked) why is_map tt

@@ -3,7 +3,22 @@ use Rattle.olr_text.specs.JsonValues.{IsJsonLine}
 use Rattle.olr_app_laws.proofs.Common.{Reference, IsSoundMap, RoadMap, AreLists, Entry, Candidate, Tolerances, AreAnswers, KeyValue, IsKey, IsPageAfter, PageValue, Penalties, CursorRead, Mark, LayersValue, next_after, IsStart, Accepts, IsAnswer, IsAnswerOf, IsAnswerOn, IsMapOfFiles, fault_of_map, fault_of, OneOutcome, AreLayers, AreMatchings, ArePages, ArePagesAsked, IsOfInputs, IsPageAsAsked, IsPageIn, IsPageTextWith, IsPrinted, IsStartHere, IsTextOfPage, OnLayers, OnStart, key_of, text_of, Accepted, TooManyCandidates, Format, Json, Text, MatchRequest, Pages, One, Request, Candidates, Match, Places, Show, ◌≡◌, ℕ, ◌+◌, suc, Bool, true, false, List, [], ◌∷◌, None, Option, Some, Ok, Err, refl, ap, sym, subst, ◌∙◌, arith, inl, inr, All, All-contains, All-head, All-tail, none-some, AllZip, concat, Contains, IfSome, if◌then◌else◌, Data, Laws, known, RefusedByName, cursor_in, Why, accepted_once, IsSingle, first_then, no_fault_once, no_ok_and_err, same_err}
 use Rattle.olr_detail.specs.MatchingDetail.{Detailed, IsDetailed, entries_of}
 use Rattle.olr_detail.specs.declared.candidate_detail.CandidateDetail.{CandidateDetail}
+use Rattle.olr_app.proofs.PagesOf.{same_road}
+use Rattle.olr_app.specs.Matching.{ArePagesIn, AreTextsOfPages, next_behind}
+use Rattle.olr_app.specs.Page.{detailed_features_of, features_of}
+use Rattle.olr_app_laws.proofs.Common.{AreEntriesAt, Contains-append_right, Extras, GeoJson, shown_for}
+use Rattle.olr_app_laws.proofs.HeadlineRests.{next_more}
+use Rattle.olr_detail.specs.GeoJson.{page_members}
+use Rattle.olr_detail.specs.Json.{page_object as detailed_page}
+use Rattle.olr_detail.specs.Text.{page_text as detailed_page_text}
+use Rattle.olr_geojson.specs.Collection.{collection_text}
+use Rattle.olr_keys.specs.Headline.{joined}
+use Rattle.olr_likely.specs.Asking.{AreAsked}
+use Rattle.olr_likely.specs.GeoJson.{shown_collection}
 use Rattle.olr_likely.specs.Json.{shown_object}
+use Rattle.olr_report.specs.Json.{page_object}
+use Rattle.olr_report.specs.ShownMap.{MapShown}
+use Rattle.olr_report.specs.Text.{page_text}
 use Rattle.olr_likely.specs.Text.{shown_text}
 use Rattle.olr_likely.specs.declared.showing.ShownPlaces.{ShownPlaces}
 use Rattle.olr_why.specs.Reasons.{WhyValue}
@@ -31,7 +46,7 @@ zip_once R S (x ∷ xs) (y ∷ ys) (z ∷ zs) same is its = grind (
       (λ a b c has. same a b c (suc has.0, omega (arith, has.1), has.2)) is.1 its.1,
 )
 
--- ---- an output in either format
+-- ---- an output in a format
 
 -- the line of a value is one
 same_line : {value other : Data} {text again : List ℕ} → value ≡ other → IsJsonLine value text
@@ -42,30 +57,44 @@ reference_in : (format : Format) (reference : Reference) (text other : List ℕ)
     → IsReferenceIn format reference text → IsReferenceIn format reference other → text ≡ other
 reference_in Text reference text other is again = is ∙ sym again
 reference_in Json reference text other is again = same_line refl is again
+reference_in GeoJson reference text other is again = same_line refl is again
 
-listing_in : (format : Format) (road : RoadMap) (lists : List (List Candidate))
-    (text other : List ℕ) → IsListingIn format road lists text
-    → IsListingIn format road lists other → text ≡ other
-listing_in Text road lists text other is again = is ∙ sym again
-listing_in Json road lists text other is again = same_line refl is again
+listing_in : (format : Format) (on : MapShown) (lists : List (List Candidate))
+    (text other : List ℕ) → IsListingIn format on lists text
+    → IsListingIn format on lists other → text ≡ other
+listing_in Text on lists text other is again = is ∙ sym again
+listing_in Json on lists text other is again = same_line refl is again
+listing_in GeoJson on lists text other is again = is ∙ sym again
 
-details_in : (format : Format) (road : RoadMap) (details : List (List CandidateDetail))
-    (text other : List ℕ) → IsListingTextWith format road details text
-    → IsListingTextWith format road details other → text ≡ other
-details_in Text road details text other is again = is ∙ sym again
-details_in Json road details text other is again = same_line refl is again
+details_in : (format : Format) (on : MapShown) (details : List (List CandidateDetail))
+    (text other : List ℕ) → IsListingTextWith format on details text
+    → IsListingTextWith format on details other → text ≡ other
+details_in Text on details text other is again = is ∙ sym again
+details_in Json on details text other is again = same_line refl is again
+details_in GeoJson on details text other is again = is ∙ sym again
 
--- places that have one text and one JSON
-places_in : (format : Format) (road : RoadMap) (one other : ShownPlaces) (text again : List ℕ)
-    → shown_text road one ≡ shown_text road other → shown_object road one ≡ shown_object road other
-    → IsPlacesIn format road one text → IsPlacesIn format road other again → text ≡ again
-places_in Text road one other text again rows values is its = is ∙ rows ∙ sym its
-places_in Json road one other text again rows values is its = same_line values is its
+-- places that have one text, one JSON and one GeoJSON
+places_in : (format : Format) (extras : Extras) (road : RoadMap) (reference : Reference)
+    (one other : ShownPlaces) (text again : List ℕ) → shown_text road one ≡ shown_text road other
+    → shown_object (shown_for extras road reference) one
+    ≡ shown_object (shown_for extras road reference) other
+    → shown_collection (shown_for extras road reference) reference extras.part one
+    ≡ shown_collection (shown_for extras road reference) reference extras.part other
+    → IsPlacesIn format extras road reference one text
+    → IsPlacesIn format extras road reference other again → text ≡ again
+places_in Text extras road reference one other text again rows values features is its =
+    is ∙ rows ∙ sym its
+places_in Json extras road reference one other text again rows values features is its =
+    same_line values is its
+places_in GeoJson extras road reference one other text again rows values features is its =
+    is ∙ features ∙ sym its
 
-reasons_in : (format : Format) (road : RoadMap) (why : WhyValue) (text again : List ℕ)
-    → IsWhyIn format road why text → IsWhyIn format road why again → text ≡ again
-reasons_in Text road why text again is its = is ∙ sym its
-reasons_in Json road why text again is its = same_line refl is its
+reasons_in : (format : Format) (spots : Bool) (road : RoadMap) (why : WhyValue)
+    (text again : List ℕ) → IsWhyIn format spots road why text
+    → IsWhyIn format spots road why again → text ≡ again
+reasons_in Text spots road why text again is its = is ∙ sym its
+reasons_in Json spots road why text again is its = same_line refl is its
+reasons_in GeoJson spots road why text again is its = same_line refl is its
 
 -- where more follow, pages have one mark
 mark_once : (marks : Bool) (text : List ℕ) (tolerances : Tolerances) (road : RoadMap)
@@ -77,6 +106,19 @@ mark_once true text tolerances road pages mark other is its page has more =
     let mark_of : List ℕ → Option Mark = λ bytes. Some (record { 0 = bytes }) in
     is.1 ∙ ap mark_of (is.2 page has more ∙ sym (its.2 page has more)) ∙ sym its.1
 mark_once false text tolerances road pages mark other is its page has more = is ∙ sym its
+
+-- a page that goes on has more
+more_of : (page : PageValue) (key : KeyValue) → next_after page ≡ Some key → page.more ≡ true
+more_of page key next = next_more page.more page.keys key next
+
+-- where pages go on, there is one that has more
+last_more : (pages : List PageValue) (key : KeyValue) → next_behind pages ≡ Some key
+    → (page : PageValue) × Contains pages page × (page.more ≡ true)
+last_more [] key next = absurd cc
+last_more (page ∷ []) key next = (page, (0, omega arith, refl), more_of page key next)
+last_more (page ∷ second ∷ pages) key next =
+    let later = last_more (second ∷ pages) key next in
+    (later.0, Contains-append_right (page ∷ []) (second ∷ pages) later.0 later.1, later.2)
 
 module _ (laws : Laws) where
   -- ---- candidates and layers
@@ -107,24 +149,24 @@ module _ (laws : Laws) where
       laws.layers road one other is.0 again.0 (is.1 ∙ sym again.1) (is.2 ∙ sym again.2))
 
   listing_once : (detail : Bool) (format : Format) (tolerances : Tolerances)
-      (reference : Reference) (road : RoadMap) (lists : List (List Candidate)) (text other : List ℕ)
-      → IsListingAsAsked detail format tolerances reference road lists text
-      → IsListingAsAsked detail format tolerances reference road lists other → text ≡ other
-  listing_once false format tolerances reference road lists text other is again =
-      listing_in format road lists text other is again
-  listing_once true format tolerances reference road lists text other is again =
-      let details = laws.listing_detail tolerances reference road.lines lists is.details
+      (reference : Reference) (on : MapShown) (lists : List (List Candidate)) (text other : List ℕ)
+      → IsListingAsAsked detail format tolerances reference on lists text
+      → IsListingAsAsked detail format tolerances reference on lists other → text ≡ other
+  listing_once false format tolerances reference on lists text other is again =
+      listing_in format on lists text other is again
+  listing_once true format tolerances reference on lists text other is again =
+      let details = laws.listing_detail tolerances reference on.road.lines lists is.details
       again.details is.are again.are in
-      details_in format road again.details text other
-      (subst (λ list. IsListingTextWith format road list text) details is.text_is) again.text_is
+      details_in format on again.details text other
+      (subst (λ list. IsListingTextWith format on list text) details is.text_is) again.text_is
 
-  listed_once : (detail : Bool) (format : Format) (tolerances : Tolerances)
+  listed_once : (extras : Extras) (format : Format) (tolerances : Tolerances)
       (reference : Reference) (road : RoadMap)
-      → IsSingle (IsListed detail format tolerances reference road)
-  listed_once detail format tolerances reference road =
+      → IsSingle (IsListed extras format tolerances reference road)
+  listed_once extras format tolerances reference road =
       lists_or_fault tolerances reference road _ (λ text is. (is.lists, is.candidates))
-      (λ one other is again. listing_once detail format tolerances reference road is.lists one other
-      is.text_is (rw (laws.lists _ _ _ _ _ is.candidates again.candidates) again.text_is))
+      (λ one other is again. listing_once extras.detail format tolerances reference
+      (shown_for extras road reference) is.lists one other is.text_is (rw (laws.lists _ _ _ _ _ is.candidates again.candidates) again.text_is))
 
   -- ---- pages
 
@@ -158,34 +200,46 @@ module _ (laws : Laws) where
   pages_once asked layers start begins (Err one) (Ok other) is again = grind (arith, no_both)
   pages_once asked layers start begins (Err one) (Err other) is again = ap Err (is.0 ∙ sym again.0)
 
-  -- ---- a page in either format
+  -- ---- a page in a format
 
   -- what ends with a page is the same for two marks that are the same where more follow
-  ends_alike : {A : Type 0} (ending : Option KeyValue → Option Mark → A) (last : Option KeyValue)
-      (more : Bool) (mark other : Option Mark)
+  ends_alike : {A : Type 0} (ending : Option KeyValue → Option Mark → A) (next : Option KeyValue)
+      (mark other : Option Mark)
       → ((one another : Option Mark) → ending None one ≡ ending None another)
-      → (more ≡ true → mark ≡ other)
-      → ending (if more then last else None) mark ≡ ending (if more then last else None) other
-  ends_alike ending last true mark other none same = ap (ending last) (same refl)
-  ends_alike ending last false mark other none same = none mark other
+      → ((key : KeyValue) → next ≡ Some key → mark ≡ other)
+      → ending next mark ≡ ending next other
+  ends_alike ending None mark other none same = none mark other
+  ends_alike ending (Some key) mark other none same = ap (ending (Some key)) (same key refl)
 
-  -- the text of a page is one, where more follow by the same mark
-  one_in : (format : Format) (road : RoadMap) (entries : List Entry) (page : PageValue)
-      (mark other : Option Mark) (text again : List ℕ) → (page.more ≡ true → mark ≡ other)
-      → IsPageIn format road entries (next_after page) mark text
-      → IsPageIn format road entries (next_after page) other again → text ≡ again
-  one_in Text road entries page mark other text again same is its = grind (arith, ends_alike)
-  one_in Json road entries page mark other text again same is its =
-      grind (arith, same_line, ends_alike)
+  module _ (extras : Extras) (road : RoadMap) (reference : Reference) (next : Option KeyValue)
+      (mark other : Option Mark) (text again : List ℕ)
+      (same : (key : KeyValue) → next ≡ Some key → mark ≡ other) where
+    -- the text of a page is one, where more follow by the same mark
+    one_in : (format : Format) (entries : List Entry)
+        → IsPageIn extras road reference format entries next mark text
+        → IsPageIn extras road reference format entries next other again → text ≡ again
+    one_in Text entries is its = is
+        ∙ ends_alike (λ n m. page_text road entries n m) next mark other (λ a b. refl) same ∙ sym its
+    one_in Json entries is its = same_line
+        (ends_alike (λ n m. page_object (shown_for extras road reference) entries n m) next mark
+        other (λ a b. refl) same) is its
+    one_in GeoJson entries is its = is
+        ∙ ends_alike (λ n m. collection_text None (features_of extras road reference entries)
+        (page_members n m)) next mark other (λ a b. refl) same ∙ sym its
 
-  -- the same, where what speaks for each matching is shown with it
-  one_in_detail : (format : Format) (road : RoadMap) (all : List Detailed) (page : PageValue)
-      (mark other : Option Mark) (text again : List ℕ) → (page.more ≡ true → mark ≡ other)
-      → IsPageTextWith format road all (next_after page) mark text
-      → IsPageTextWith format road all (next_after page) other again → text ≡ again
-  one_in_detail Text road all page mark other text again same is its = grind (arith, ends_alike)
-  one_in_detail Json road all page mark other text again same is its =
-      grind (arith, same_line, ends_alike)
+    -- the same, where what speaks for each matching is shown with it
+    one_in_detail : (format : Format) (all : List Detailed)
+        → IsPageTextWith extras road reference format all next mark text
+        → IsPageTextWith extras road reference format all next other again → text ≡ again
+    one_in_detail Text all is its = is
+        ∙ ends_alike (λ n m. detailed_page_text road all n m) next mark other (λ a b. refl) same
+        ∙ sym its
+    one_in_detail Json all is its = same_line
+        (ends_alike (λ n m. detailed_page (shown_for extras road reference) all n m) next mark other
+        (λ a b. refl) same) is its
+    one_in_detail GeoJson all is its = is
+        ∙ ends_alike (λ n m. collection_text None (detailed_features_of extras road reference all)
+        (page_members n m)) next mark other (λ a b. refl) same ∙ sym its
 
   -- what speaks for matchings is one thing for each
   pub detailed_once : (tolerances : Tolerances) (reference : Reference) (road : RoadMap)
@@ -206,50 +260,78 @@ module _ (laws : Laws) where
       (All-tail is_detailed one all are) (All-tail is_detailed other others their) in
       λ k. record { entry = entry k; detail = detail k } ∷ rest k
 
-  module _ (road : RoadMap) (layers : LayersValue) where
-    asked_page_once : (detail : Bool) (format : Format) (entries : List Entry) (page : PageValue)
-        (mark other : Option Mark) (text again : List ℕ) → (page.more ≡ true → mark ≡ other)
-        → IsPageAsAsked detail format road layers entries (next_after page) mark text
-        → IsPageAsAsked detail format road layers entries (next_after page) other again
+  module _ (extras : Extras) (road : RoadMap) (layers : LayersValue) where
+    asked_page_once : (detail : Bool) (format : Format) (entries : List Entry)
+        (next : Option KeyValue) (mark other : Option Mark) (text again : List ℕ)
+        → ((key : KeyValue) → next ≡ Some key → mark ≡ other)
+        → IsPageAsAsked detail extras format road layers entries next mark text
+        → IsPageAsAsked detail extras format road layers entries next other again
         → text ≡ again
-    asked_page_once false format entries page mark other text again same is its =
-        one_in format road entries page mark other text again same is its
-    asked_page_once true format entries page mark other text again same is its =
+    asked_page_once false format entries next mark other text again same is its =
+        one_in extras road layers.reference next mark other text again same format entries is its
+    asked_page_once true format entries next mark other text again same is its =
         let all = detailed_once layers.tolerances layers.reference road is.all its.all
         (is.are.entries_are ∙ sym its.are.entries_are) is.are.each its.are.each in
-        one_in_detail format road its.all page mark other text again same
-        (subst (λ list. IsPageTextWith format road list (next_after page) mark text) all
+        one_in_detail extras road layers.reference next mark other text again same format its.all
+        (subst (λ list. IsPageTextWith extras road layers.reference format list next mark text) all
         is.text_is) its.text_is
 
+    module _ (sound : IsSoundMap road) where
+      -- matchings of keys have one text, where more follow by the same mark
+      keys_once : (format : Format) (keys : List KeyValue) (entries others : List Entry)
+          (next : Option KeyValue) (mark other : Option Mark) (text again : List ℕ)
+          → ((key : KeyValue) → next ≡ Some key → mark ≡ other)
+          → AreEntriesAt road layers keys entries → AreEntriesAt road layers keys others
+          → IsPageAsAsked extras.detail extras format road layers entries next mark text
+          → IsPageAsAsked extras.detail extras format road layers others next other again
+          → text ≡ again
+      keys_once format keys entries others next mark other text again same are their is its =
+          asked_page_once extras.detail format others next mark other text again same
+          (subst (λ list. IsPageAsAsked extras.detail extras format road layers list next mark text)
+          (laws.entries road layers sound keys entries others are their) is) its
+
+      pub page_once : (format : Format) (mark other : Option Mark) (page : PageValue)
+          (text again : List ℕ) → (page.more ≡ true → mark ≡ other)
+          → IsTextOfPage extras format road layers mark page text
+          → IsTextOfPage extras format road layers other page again → text ≡ again
+      page_once format mark other page text again same is its =
+          keys_once format page.keys is.entries its.entries (next_after page) mark other text again
+          (λ key next. same (more_of page key next)) is.are its.are is.text_is its.text_is
+
+      texts_once : (format : Format) (mark other : Option Mark)
+          (pages : List PageValue) (one another : List ℕ)
+          → ((page : PageValue) → Contains pages page → page.more ≡ true → mark ≡ other)
+          → AreTextsOfPages extras format road layers mark pages one
+          → AreTextsOfPages extras format road layers other pages another → one ≡ another
+      texts_once format mark other pages one another same is its =
+          is.whole ∙ ap (λ all. concat all)
+          (zip_once (IsTextOfPage extras format road layers mark)
+          (IsTextOfPage extras format road layers other) pages is.texts its.texts
+          (λ page text again has. page_once format mark other page text again (same page has)) is.each
+          its.each) ∙ sym its.whole
+
+      -- so have pages
+      pages_in_once : (format : Format) (mark other : Option Mark)
+          (pages : List PageValue) (one another : List ℕ)
+          → ((page : PageValue) → Contains pages page → page.more ≡ true → mark ≡ other)
+          → ArePagesIn format extras road layers mark pages one
+          → ArePagesIn format extras road layers other pages another → one ≡ another
+      pages_in_once Text mark other pages one another same is its =
+          texts_once Text mark other pages one another same is its
+      pages_in_once Json mark other pages one another same is its =
+          texts_once Json mark other pages one another same is its
+      pages_in_once GeoJson mark other pages one another same is its =
+          keys_once GeoJson (joined pages) is.entries its.entries (next_behind pages) mark other one
+          another (λ key next. let last = last_more pages key next in same last.0 last.1 last.2)
+          is.are its.are is.text_is its.text_is
+
   module _ (road : RoadMap) (layers : LayersValue) (sound : IsSoundMap road) where
-    pub page_once : (detail : Bool) (format : Format) (mark other : Option Mark)
-        (page : PageValue) (text again : List ℕ) → (page.more ≡ true → mark ≡ other)
-        → IsTextOfPage detail format road layers mark page text
-        → IsTextOfPage detail format road layers other page again → text ≡ again
-    page_once detail format mark other page text again same is its =
-        let entries = laws.entries road layers sound page.keys is.entries its.entries is.are its.are
-        in
-        asked_page_once road layers detail format its.entries page mark other text again same
-        (subst (λ list. IsPageAsAsked detail format road layers list (next_after page) mark text)
-        entries is.text_is) its.text_is
-
-    texts_once : (detail : Bool) (format : Format) (mark other : Option Mark)
-        (pages : List PageValue) (texts again : List (List ℕ))
-        → ((page : PageValue) → Contains pages page → page.more ≡ true → mark ≡ other)
-        → AllZip (IsTextOfPage detail format road layers mark) pages texts
-        → AllZip (IsTextOfPage detail format road layers other) pages again → texts ≡ again
-    texts_once detail format mark other pages texts again same =
-        zip_once (IsTextOfPage detail format road layers mark)
-        (IsTextOfPage detail format road layers other) pages texts again
-        (λ page text its has. page_once detail format mark other page text its (same page has))
-
     printed_once : (marks : Bool) (asked : MatchRequest) (pages : List PageValue)
         → IsSingle (IsPrinted marks asked road layers pages)
     printed_once marks asked pages = no_fault_once _ (λ one other is again.
-        let texts = texts_once asked.detail asked.format is.mark again.mark pages is.texts.texts
-        again.texts.texts (mark_once marks asked.text.now asked.tolerances road pages is.mark
-        again.mark is.is_mark again.is_mark) is.texts.each again.texts.each in
-        is.texts.whole ∙ ap (λ all. concat all) texts ∙ sym again.texts.whole)
+        pages_in_once asked.extras road layers sound asked.format is.mark again.mark pages one other
+        (mark_once marks asked.text.now asked.tolerances road pages is.mark again.mark is.is_mark
+        again.is_mark) is.text_is again.text_is)
 
   -- ---- the cursor
 
@@ -288,19 +370,32 @@ module _ (laws : Laws) where
   places_once asked reference road sound =
       first_then _ (ArePlacesOn asked road) (layers_once asked.tolerances reference road)
       (λ layers are. no_fault_once _ (λ one other is again.
-      let rows = laws.places_text laws.looking asked.limits road layers asked.order asked.detail
+      let extras = asked.extras in
+      let reference = layers.reference in
+      let on = shown_for extras road reference in
+      let same = sym (same_road extras.shape road reference) in
+      let on_it : (shown : ShownPlaces) → AreAsked asked.limits road layers asked.order
+      extras.detail shown → AreAsked asked.limits on.road layers asked.order extras.detail shown =
+      λ shown asks. subst (λ r. AreAsked asked.limits r layers asked.order extras.detail shown) same
+      asks in
+      let sound_on : IsSoundMap on.road = subst (λ r. IsSoundMap r) same sound in
+      let rows = laws.places_text laws.looking asked.limits road layers asked.order extras.detail
       is.shown again.shown sound is.are_asked again.are_asked in
-      let values = laws.places_json laws.looking asked.limits road layers asked.order asked.detail
-      is.shown again.shown sound is.are_asked again.are_asked in
-      places_in asked.format road is.shown again.shown one other rows values is.output_is
-      again.output_is))
+      let values = laws.places_json laws.looking asked.limits on layers asked.order extras.detail
+      is.shown again.shown sound_on (on_it is.shown is.are_asked)
+      (on_it again.shown again.are_asked) in
+      let features = laws.places_geojson laws.looking asked.limits on layers reference extras.part
+      asked.order extras.detail is.shown again.shown sound_on (on_it is.shown is.are_asked)
+      (on_it again.shown again.are_asked) in
+      places_in asked.format extras road reference is.shown again.shown one other rows values
+      features is.output_is again.output_is))
 
-  reasons_once : (format : Format) (tolerances : Tolerances) (nearest : ℕ)
+  reasons_once : (format : Format) (spots : Bool) (tolerances : Tolerances) (nearest : ℕ)
       (reference : Reference) (road : RoadMap)
-      → IsSingle (AreReasons format tolerances nearest reference road)
-  reasons_once format tolerances nearest reference road = no_fault_once _ (λ one other is again.
-      reasons_in _ _ _ _ _ is.output_is
-      (subst (λ w. IsWhyIn format road w other)
+      → IsSingle (AreReasons format spots tolerances nearest reference road)
+  reasons_once format spots tolerances nearest reference road = no_fault_once _ (λ one other is again.
+      reasons_in _ _ _ _ _ _ is.output_is
+      (subst (λ w. IsWhyIn format spots road w other)
       (laws.why road tolerances reference nearest again.why is.why again.is_why is.is_why)
       again.output_is))
 
@@ -311,7 +406,7 @@ module _ (laws : Laws) where
       → IsSingle (IsAnswerOn marks request accepted road)
   on_map_once marks (Show text format) accepted road is sound =
       grind (arith, no_fault_once, reference_in)
-  on_map_once marks (Candidates text tolerances detail format) accepted road is sound =
+  on_map_once marks (Candidates text tolerances extras format) accepted road is sound =
       grind (arith, listed_once)
   on_map_once marks (Match asked) accepted road is sound =
       matchings_once marks asked road sound accepted is.1

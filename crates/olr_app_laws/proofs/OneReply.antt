@@ -1,5 +1,5 @@
 -- A text has one reply on a map.
-use Rattle.olr_app_laws.proofs.Common.{◌≡◌, ◌≢◌, ℕ, Bool, List, Option, None, Some, Ok, Err, Result, Bor, refl, sym, ap, ◌∙◌, subst, inl, inr, option_map, at_bytes, Tolerances, Fault, Format, Pages, One, Request, Candidates, Match, Places, Show, Why, RoadMap, IsSoundMap, same_ok, no_ok_and_err, same_Some, none-some}
+use Rattle.olr_app_laws.proofs.Common.{◌≡◌, ◌≢◌, ℕ, Extras, List, Option, None, Some, Ok, Err, Result, Bor, refl, sym, ap, ◌∙◌, subst, inl, inr, option_map, at_bytes, Tolerances, Fault, Format, Pages, One, Request, Candidates, Match, Places, Show, Why, RoadMap, IsSoundMap, same_ok, no_ok_and_err, same_Some, none-some}
 use Rattle.std.specs.Prelude.{◌⊎◌}
 use Rattle.olr_app.specs.Answer.{IsAnswerOfMany, IsFaultOfMany}
 use Rattle.olr_request.specs.declared.fault.Fault.TheVariants as fault
@@ -19,13 +19,13 @@ cast same is = subst (λ (T : Type 0). T) same is
 
 module _ (road : RoadMap) where
   of_match : (text : Bor (List ℕ)) (tolerances : Tolerances) (size : ℕ) (pages : Pages)
-      (detail : Bool) (format : Format) (answer : Result (List ℕ) Fault)
+      (extras : Extras) (format : Format) (answer : Result (List ℕ) Fault)
       → IsAnswerOfMany road (Match (record {
         text = text;
         tolerances = tolerances;
         size = size;
         pages = pages;
-        detail = detail;
+        extras = extras;
         format = format;
       })) answer
       ≡ IsAnswerOfMany road (Match (record {
@@ -33,24 +33,24 @@ module _ (road : RoadMap) where
         tolerances = tolerances;
         size = size;
         pages = placeless_pages pages;
-        detail = detail;
+        extras = extras;
         format = format;
       })) answer
-  of_match text tolerances size All detail format (Ok output) = refl
-  of_match text tolerances size All detail format (Err why) = refl
-  of_match text tolerances size (One None) detail format (Ok output) = refl
-  of_match text tolerances size (One None) detail format (Err why) = refl
-  of_match text tolerances size (One (Some cursor)) detail format (Ok output) = refl
-  of_match text tolerances size (One (Some cursor)) detail format (Err why) = refl
+  of_match text tolerances size All extras format (Ok output) = refl
+  of_match text tolerances size All extras format (Err why) = refl
+  of_match text tolerances size (One None) extras format (Ok output) = refl
+  of_match text tolerances size (One None) extras format (Err why) = refl
+  of_match text tolerances size (One (Some cursor)) extras format (Ok output) = refl
+  of_match text tolerances size (One (Some cursor)) extras format (Err why) = refl
 
   pub placed : (request : Request) (answer : Result (List ℕ) Fault)
       → IsAnswerOfMany road request answer ≡ IsAnswerOfMany road (placeless request) answer
   placed (Show text format) (Ok output) = refl
   placed (Show text format) (Err why) = refl
-  placed (Candidates text tolerances detail format) (Ok output) = refl
-  placed (Candidates text tolerances detail format) (Err why) = refl
+  placed (Candidates text tolerances extras format) (Ok output) = refl
+  placed (Candidates text tolerances extras format) (Err why) = refl
   placed (Match asked) answer =
-      of_match asked.text asked.tolerances asked.size asked.pages asked.detail asked.format answer
+      of_match asked.text asked.tolerances asked.size asked.pages asked.extras asked.format answer
   placed (Places asked) (Ok output) = refl
   placed (Places asked) (Err why) = refl
   placed (Why asked) (Ok output) = refl

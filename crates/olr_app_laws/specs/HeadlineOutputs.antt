@@ -1,5 +1,5 @@
--- What an output shows of the matchings, in either format, in detail or not, and where it goes on: a
--- text by its rows, of which the last one says it, and JSON by what a reader finds under the names
+-- What an output shows of the matchings, as text or as JSON, in detail or not, and where it goes on:
+-- a text by its rows, of which the last one says it, and JSON by what a reader finds under the names
 -- of its members.
 use Rattle.std.specs.Prelude.{◌≡◌, ◌≢◌, ℕ, ◌⊎◌, Bool, true, false, List, [], ◌∷◌, ◌++◌, map, All, Option, None, Some}
 use Rattle.std.specs.Prelude.{codes}
@@ -7,7 +7,8 @@ use Rattle.serde_json.specs.Data.{Data, array, null, string}
 use Rattle.serde_json.specs.Find.{get}
 use Rattle.serde_json.specs.Read.{read}
 use Rattle.serde_json.specs.View.{items_of}
-use Rattle.olr_app.specs.Common.{LayersValue, RoadMap}
+use Rattle.olr_app.specs.Common.{Extras, LayersValue, Reference, RoadMap}
+use Rattle.olr_app.specs.Page.{shown_for}
 use Rattle.olr_detail.specs.Json.{detailed_object}
 use Rattle.olr_detail.specs.MatchingDetail.{AreInDetail, Detailed}
 use Rattle.olr_detail.specs.Text.{detailed_rows}
@@ -58,41 +59,52 @@ pub record IsObject (values : List Data) (next : Option (List ℕ)) (output : Li
   pub matchings : get (codes "matchings") value ≡ Some (array (items_of values))
   pub next_is : get (codes "next") value ≡ Some (next_of next)
 
--- ---- either format
+-- ---- either of them
+
+-- the formats whose outputs are joined by what they show
+pub data Joinable : Type 0 where
+  as_text : Joinable
+  as_json : Joinable
+
+abbrev pub format_of : Joinable → Format
+format_of as_text = Text
+format_of as_json = Json
 
 -- what matchings are shown by: the bytes of rows, or values of JSON
-abbrev pub Part : Format → Type 0
-Part Text = ℕ
-Part Json = Data
+abbrev pub Part : Joinable → Type 0
+Part as_text = ℕ
+Part as_json = Data
 
 -- an output shows these parts of matchings, and that more follow at this cursor, or none do
-abbrev pub Shows : (format : Format) → List (Part format) → Option (List ℕ) → List ℕ → Type 0
-Shows Text rows next output = IsLastRow rows (last_row_of next) output
-Shows Json values next output = IsObject values next output
+abbrev pub Shows : (format : Joinable) → List (Part format) → Option (List ℕ) → List ℕ → Type 0
+Shows as_text rows next output = IsLastRow rows (last_row_of next) output
+Shows as_json values next output = IsObject values next output
 
--- the parts that show entries, in order: the rows of each, or an object for each
-abbrev pub parts_of : (format : Format) → RoadMap → List Entry → List (Part format)
-parts_of Text road entries = entries_rows road entries
-parts_of Json road entries = map (entry_object road) entries
+-- ---- matchings of a reference, in detail or not
 
--- ---- in detail or not
+module _ (extras : Extras) (road : RoadMap) (reference : Reference) where
+  -- the parts that show entries, in order: the rows of each, or an object for each
+  abbrev pub parts_of : (format : Joinable) → List Entry → List (Part format)
+  parts_of as_text entries = entries_rows road entries
+  parts_of as_json entries = map (entry_object (shown_for extras road reference)) entries
 
--- the parts that show matchings with what speaks for each, in order: the rows of each, or an object
--- for each
-abbrev pub detailed_parts_of : (format : Format) → RoadMap → List Detailed → List (Part format)
-detailed_parts_of Text road all = texts_of (detailed_rows road) all
-detailed_parts_of Json road all = map (detailed_object road) all
+  -- the parts that show matchings with what speaks for each, in order: the rows of each, or an
+  -- object for each
+  abbrev pub detailed_parts_of : (format : Joinable) → List Detailed → List (Part format)
+  detailed_parts_of as_text all = texts_of (detailed_rows road) all
+  detailed_parts_of as_json all = map (detailed_object (shown_for extras road reference)) all
 
 -- the parts that show these matchings in detail: with what speaks for each of them
-pub record ArePartsInDetail (format : Format) (road : RoadMap) (layers : LayersValue)
-    (entries : List Entry) (parts : List (Part format)) : Type 0 where
+pub record ArePartsInDetail (extras : Extras) (format : Joinable) (road : RoadMap)
+    (layers : LayersValue) (entries : List Entry) (parts : List (Part format)) : Type 0 where
   pub all : List Detailed
   pub are : AreInDetail layers.tolerances layers.reference road entries all
-  pub parts_are : parts ≡ detailed_parts_of format road all
+  pub parts_are : parts ≡ detailed_parts_of extras road layers.reference format all
 
 -- the parts that show these matchings, in detail or not
-abbrev pub ArePartsOf : Bool → (format : Format) → RoadMap → LayersValue → List Entry
+abbrev pub ArePartsOf : Bool → Extras → (format : Joinable) → RoadMap → LayersValue → List Entry
     → List (Part format) → Type 0
-ArePartsOf false format road layers entries parts = parts ≡ parts_of format road entries
-ArePartsOf true format road layers entries parts =
-    ArePartsInDetail format road layers entries parts
+ArePartsOf false extras format road layers entries parts =
+    parts ≡ parts_of extras road layers.reference format entries
+ArePartsOf true extras format road layers entries parts =
+    ArePartsInDetail extras format road layers entries parts

@@ -7,7 +7,7 @@ use Rattle.olr_detail.specs.Laws.{OneListing, OneMatchingDetail}
 use Rattle.olr_fingerprint.specs.Fingerprint.{FingerprintIsMark}
 use Rattle.olr_keys.specs.CursorLaws.{OneCursor}
 use Rattle.olr_keys.specs.Laws.{KeysAreInRange, NoPageBehindOthers, OneChain, OneList, OnePage}
-use Rattle.olr_likely.specs.OneAnswer.{OneJson, OneText}
+use Rattle.olr_likely.specs.OneAnswer.{OneGeoJson, OneJson, OneText}
 use Rattle.olr_map.specs.Files.{IsFaultOf, IsMapOf}
 use Rattle.olr_matching.specs.LayersLaws.{OneLayers}
 use Rattle.olr_places_laws.specs.VerdictLaws.{OneLooking}
@@ -53,4 +53,5 @@ pub record Laws : Type 0 where
   pub looking : OneLooking
   pub places_text : OneText
   pub places_json : OneJson
+  pub places_geojson : OneGeoJson
   pub why : OneWhy

@@ -12,6 +12,7 @@ use Rattle.olr_app.specs.Stages.{IsSingle}
 use Rattle.olr_request.specs.declared.fault.Fault.{Fault}
 use Rattle.olr_request.specs.declared.fault.Fault.TheVariants as fault
 use Rattle.olr_batch.specs.Answers.{IsFaultFor, IsReply}
+use Rattle.olr_request.specs.declared.request.Format.TheVariants.{Json}
 use Rattle.olr_request.specs.declared.request.Request.{Request}
 use Rattle.olr_words.specs.OneRequest.{AreEqual, StateTheSame, placeless}
 use Rattle.olr_words.specs.Record.{IsRequestOf}
@@ -31,7 +32,7 @@ IsAnswer asked road text =
 -- an answer is the output of a run; one with matchings shows the same page, but the cursor at the
 -- end of an output has a mark
 abbrev pub IsSameAnswer : QuestionKind → RoadMap → List ℕ → List ℕ → Type 0
-IsSameAnswer (Match size detail) road output answer = ShowsSame detail road output answer
+IsSameAnswer (Match size extras) road output answer = ShowsSame Json extras road output answer
 IsSameAnswer other road output answer = answer ≡ output
 
 -- The answer to a text is what a run prints for it on the same files.

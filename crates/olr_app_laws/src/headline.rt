@@ -1,14 +1,14 @@
 //! The headline, with no code: it is the contract of an empty function.
 //!
 //! It speaks of the bytes of several runs that have the same files of a map, the same text of a
-//! reference, the same tolerances and the same format, and of which all are asked for pages in
-//! detail or none is. Each run begins at the cursor at the end of the output before it, and may have
-//! a page size of its own. A text shows matchings by its rows, of which the last one says whether
-//! more follow; JSON shows them by the values of the array `matchings`, and has that cursor, or
-//! null, under the name `next`. In detail the rows or the value of a matching say what speaks for it,
-//! too.
+//! reference, the same tolerances and the same format, text or JSON, and that show the same of each
+//! matching: in detail or not, with shapes or without. Each run begins at the cursor at the end of
+//! the output before it, and may have a page size of its own. A text shows matchings by its rows, of
+//! which the last one says whether more follow; JSON shows them by the values of the array
+//! `matchings`, and has that cursor, or null, under the name `next`. In detail the rows or the value
+//! of a matching say what speaks for it, too.
 
-ghost use Rattle.olr_app_laws.specs.Headline.{AllPages, EachHasCursor, GoesOnHere, Headline};
+ghost use Rattle.olr_app_laws.specs.Headline.{AllAsOne, AllPages, EachHasCursor, GoesOnHere, Headline};
 ghost use Rattle.olr_app_laws.specs.Headline.{NoneRefused, OneMatchings, RefusedByName, RunsEnd};
 ghost use Rattle.olr_app_laws.specs.Headline.{SizesAgree};
 
@@ -52,10 +52,12 @@ pub fn cursors_go_on()
     laws_below();
 }
 
-/// What a request for all pages writes is what runs write that follow each other from the start,
-/// with pages of the same size: all outputs, one after the other.
+/// What a request for all pages writes as text or JSON is what runs write that follow each other from
+/// the start, with pages of the same size: all outputs, one after the other. As GeoJSON it is one
+/// collection of all matchings, whatever the size of a page.
 pub fn all_pages_follow()
-    ensures { AllPages }
+    ensures pages { AllPages }
+    ensures geojson { AllAsOne }
 {
     laws_below();
 }

@@ -66,8 +66,8 @@ pub fn one_answer()
 }
 
 /// The answer of one of many requests on a map is what a run for it alone prints on the same files:
-/// the same bytes for candidates, places and reasons, and for one page of matchings as JSON, in
-/// detail or not, the same page, but for the mark in the cursor at its end. It has a fault exactly
+/// the same bytes for candidates, places and reasons, and for one page of matchings as JSON or GeoJSON,
+/// in detail or not, the same page, but for the mark in the cursor at its end. It has a fault exactly
 /// where that run ends with this fault of the texts. On a map it has one answer at most or one fault,
 /// and not both.
 pub fn answers_of_many()
