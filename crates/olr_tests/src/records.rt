@@ -2,6 +2,7 @@
 //! fail in one of their calls.
 
 use crate::devices::{Given, NEVER, Taken};
+use crate::runs::NO_EXTRAS;
 use crate::samples::STREET;
 use olr_app::{Fault, In, PageSize, Question, QuestionKind, Sink, Tolerances};
 use olr_batch::run_batch;
@@ -75,7 +76,7 @@ fn answer(
     let asked = Question {
         what: QuestionKind::Match {
             size: PageSize::new(10)?,
-            detail: false,
+            extras: NO_EXTRAS,
         },
         tolerances: Tolerances::default(),
     };

@@ -3,7 +3,10 @@
 use crate::samples::{
     Files, LINE, LINE_SHOWN, NO_BANS, NO_LINES, ONE_LINE, REFERENCE, STREET, TWO_NODES,
 };
-use olr_app::{Fault, File, Format, MatchRequest, Pages, Request, Sink, Source, Tolerances, run};
+use olr_app::{
+    Extras, Fault, File, Format, MatchRequest, Pages, Request, RoutePart, Sink, Source, Tolerances,
+    run,
+};
 use olr_keys::{BadPage, PageSize};
 use std::alloc::Global;
 
@@ -14,6 +17,13 @@ pub enum Asked {
     Candidates,
     Match,
 }
+
+/// Nothing is shown beside what always is.
+pub const NO_EXTRAS: Extras = Extras {
+    detail: false,
+    shape: false,
+    part: RoutePart::Outer,
+};
 
 /// That request, with the default tolerances and pages of a size.
 fn request_of(asked: Asked, size: PageSize) -> Request<'static> {
@@ -26,7 +36,7 @@ fn request_of(asked: Asked, size: PageSize) -> Request<'static> {
         Asked::Candidates => Request::Candidates {
             text,
             tolerances,
-            detail: false,
+            extras: NO_EXTRAS,
             format: Format::Text,
         },
         Asked::Match => Request::Match(MatchRequest {
@@ -34,7 +44,7 @@ fn request_of(asked: Asked, size: PageSize) -> Request<'static> {
             tolerances,
             size,
             pages: Pages::One(None),
-            detail: false,
+            extras: NO_EXTRAS,
             format: Format::Text,
         }),
     }

@@ -20,6 +20,8 @@ const RECORDS: &[(&str, bool)] = &[
     ("match --page 3 --detail -- *", false),
     ("match --page 3 --detail -- *", true),
     ("match --page 3 -- *", false),
+    ("match --format geojson -- *", false),
+    ("match --format geojson -- *", true),
 ];
 
 /// Whether the words of a text are those of the question that was kept last. Where they aren't, the
