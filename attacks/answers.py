@@ -213,6 +213,7 @@ def as_batch(trial, seed, what, count):
         options = draws.choice(TOLERANCES)
         for _ in range(draws.choice([0, 1, 2, 3])):
             options = [*options, *drawn.option([what, *options])]
+        options = [*options, *drawn.flags(what, 0.3)]
         records = [(draws.choice(KEYS) or b"\t", drawn.reference().encode()) for _ in range(TEXTS_OF_A_BATCH)]
         (trial.folder / GIVEN).write_bytes(b"\n".join(key + text for key, text in records))
         found = trial.run([word.encode() for word in ("batch", what, *TOWN, *options, "--input", GIVEN)])

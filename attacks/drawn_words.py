@@ -16,7 +16,10 @@ TOLERANCES = [[], ["--lowest", "3", "--bearing", "8"], ["--radius", "150", "--pe
 STRANGE = ["--all", "--help", "-h", "-V", "--map .", "--map=/", "--nodes town.nodes", "--lines=town.lines", "--bans=/dev/stdin", "--bans town.bans", "--input given"]
 STRANGE += ["--input=/dev/zero", "--confidence x", "--detail", "--shape", "--order likely", "--profile feed", "--near 5", "--at 8:1.1.1", "--part inner", "--bogus"]
 STRANGE += ["-", "", "--", "-x", "--=", "\u00e9", "\u2028", "'", '"', "\\", "match", "8:1.1.1", "--after=", "--format", "--page"]
-FORMATS = [*10 * ["json"], "text", "text", "geojson", "xml", "", "JSON"]
+FORMATS = [*8 * ["json"], *4 * ["geojson"], "text", "text", "xml", "", "JSON", "GeoJSON"]
+PARTS = [*4 * ["route", "outer", "inner"], "middle", ""]
+# What a command may have beside numbers: in a record, and in a batch too.
+FLAGS = {"candidates": ["--detail", "--shape"], "match": ["--detail", "--shape"], "places": ["--detail", "--shape", "--order likely"], "why": ["--shape"]}
 # What is put somewhere into a record.
 BYTES = [b" ", b"  ", b"-", b"--", b" -- ", b" -- -- ", b"\t", b"\t\t", b"\r", b"\0", b"\x01", b"\x1b[2J", b"\x7f", b"\xff", b"\xc3", b"\xed\xa0\x80", b"\xc3\xa9"]
 BYTES += ["\u2028".encode(), "\U0001f6a7".encode(), b'"', b"\\", b"=", b"/../", b"\n", b"\r\n"]
@@ -82,6 +85,9 @@ class Records:
                 words += self.option(words)
         if draws.random() < 0.3:
             words += self.written("--format", draws.choice(FORMATS))
+        words += self.flags(command, 0.1)
+        if command in ("match", "places") and draws.random() < 0.1:
+            words += self.written("--part", draws.choice(PARTS))
         if draws.random() < 0.06:
             words.insert(draws.randint(1, len(words)), draws.choice(STRANGE))
         if draws.random() < 0.03:
@@ -95,6 +101,10 @@ class Records:
         if f"--{name}" in given and self.draws.random() < 0.9:
             return []
         return self.written(f"--{name}", mutations.value_of(name, self.draws))
+
+    def flags(self, command, share):
+        """What the command may have beside numbers, each with this probability."""
+        return [word for flag in FLAGS.get(command, []) if self.draws.random() < share for word in flag.split(" ")]
 
     def written(self, name, value):
         """An option as one word or as two."""

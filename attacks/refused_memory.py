@@ -121,6 +121,14 @@ CASES = [
     (["match", LINE, *on("one", "--detail", "--format", "json")], 0, '{"matchings":[{"cost":0,"cursor":"0:1.1","inner":[[7,0,1113]],'),
     (["places", LINE, *on("four", "--radius", "10", "--order", "likely")], 0, "place 1 matching 0:1.1 gap 0 members 3 rank 1 cost 0\n"),
     (["places", TOWN, *on("town", "--order", "likely", "--detail", "--format", "json")], 0, '{"cut":false,"looked":2,"margin":7,"next":null,"places":[{"cost":798,'),
+    (["candidates", LINE, *on("one", "--shape", "--format", "json")], 0, '{"points":[[{"at":0,"line":7,"penalty":0,"spot":[0,0]}],'),
+    (["candidates", LINE, *on("one", "--detail", "--format", "geojson")], 0, '{"features":[{"geometry":{"coordinates":[0,0],"type":"Point"},"properties":{"at":0,'),
+    (["match", POINT, *on("one", "--shape", "--format", "json")], 0, '{"matchings":[{"cursor":"0:1.1","earliest":[7,278],"latest":[7,283],'),
+    (["match", LINE, *on("four", "--radius", "10", "--page", "2", "--all", "--format", "geojson")], 0, '{"features":[{"geometry":{"coordinates":[[0,0],[0.0005,0],'),
+    (["match", POINT, *on("one", "--shape", "--detail", "--format", "geojson")], 0, '{"features":[{"geometry":{"coordinates":[0.000252,0],"type":"Point"},'),
+    (["places", TOWN, *on("town", "--order", "likely", "--shape", "--format", "geojson", "--part", "inner")], 0, '{"cut":false,"features":[{"geometry":{"coordinates":[['),
+    (["why", LINE, *on("one", "--nearest", "1", "--shape", "--format", "json")], 0, '{"legs":[{"admits":1,"class":3,"from":110,"of":1,"pairs":[],"to":1823}],"points":[{'),
+    (["match", LINE, *on("one", "--shape")], 2, "error: "),
     (["places", LINE, "--nodes", "one.nodes", "--lines", "crowd.lines"], 1, "olr: TooManyCandidates 1\n"),
     (["places", LINE, *on("one", "--most", "0")], 1, "olr: BadNumber most\n"),
     (["why", LINE, *on("four", "--bans", "all.bans", "--radius", "10", *WIDE)], 0, "point 1 candidates 2\nnear line 11 distance 0 at 0 sector 8 "),
@@ -134,7 +142,7 @@ LONG = 65_537
 BATCHES = [
     (["batch", "match", *on("town", "--bans", "town.bans", "--input", INPUT)], [None, None, "NotBase64", "NotText", "LongRecord", None]),
     (["batch", "candidates", *on("town")], [None, None, "NotBase64", "NotText", "LongRecord", None]),
-    (["batch", "places", *on("town", "--apart", "0")], [None, None, "NotBase64", "NotText", "LongRecord", None]),
+    (["batch", "places", *on("town", "--apart", "0", "--shape")], [None, None, "NotBase64", "NotText", "LongRecord", None]),
     (["batch", "why", *on("four", "--bans", "bans", "--nearest", "1")], [None, None, "NotBase64", "NotText", "LongRecord", None]),
     (["answer", *on("town", "--bans", "town.bans")], [None, None, "NotBase64", "NotText", "LongRecord", None]),
 ]
@@ -147,7 +155,7 @@ def records(one, two, broken, last):
 
 RECORDS = {
     INPUT: records(TOWN, TOWN, "*", TOWN),
-    QUESTIONS: records(f"why --bearing 0 -- {TOWN}", f"why --bearing 0 -- {TOWN}", "show -- *", f"places --apart=0 {TOWN}"),
+    QUESTIONS: records(f"why --bearing 0 -- {TOWN}", f"why --bearing 0 -- {TOWN}", "show -- *", f"places --apart=0 --format geojson {TOWN}"),
 }
 # No case has as many allocations.
 MOST = 100_000
