@@ -13,6 +13,15 @@ from typing import Any
 
 from conftest import TOP, Program, Tools
 from olr.model.late import Late
+from olr.model.questions import LIST, What, options_for
+
+ASKED_FOR: dict[str, Any] = {**LIST, "shape": True}
+"""A value of each option that isn't its default, and of some numbers."""
+
+
+def all_options(what: What) -> dict[str, Any]:
+    """All options of a question, none at its default."""
+    return {name: ASKED_FOR[name] for name in options_for(what)}
 
 
 @cache

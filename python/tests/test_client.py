@@ -10,11 +10,11 @@ from pathlib import Path
 from typing import Any
 
 import olr
-from asking import as_json, batch_of, draw_map, draw_references, said
+from asking import all_options, as_json, batch_of, draw_map, draw_references, said
 from conftest import REFERENCE, TOP, Program, by_default
 from olr.asking.processes import AHEAD
 from olr.asking.threaded import PIECE_BYTES
-from olr.model.questions import LIST, NUMBERS, TOLERANCES, What, all_words, options_for
+from olr.model.questions import LIST, NUMBERS, TOLERANCES, What, all_words
 
 DATA = TOP / "crates/olr_conformance/data"
 REFERENCES = 300
@@ -51,6 +51,7 @@ def plain(answer: Any) -> Any:
         ("candidates", {"detail": True}),
         ("places", {"order": "likely"}),
         ("places", LIST),
+        *((what, {"shape": True}) for what in REQUESTS),
     ],
 )
 def test_many_references_in_one_go(
@@ -78,12 +79,8 @@ def test_many_references_in_one_go(
 @pytest.mark.parametrize("what", NUMBERS)
 def test_json_as_it_was(what: What, text: str, program: Program) -> None:
     """Of a line and of a point along a line, byte by byte, with each option and without."""
-    names = options_for(what)
-    asked: list[dict[str, Any]] = [
-        {},
-        *({name: LIST[name]} for name in names),
-        {name: LIST[name] for name in names},
-    ]
+    options = all_options(what)
+    asked: list[dict[str, Any]] = [{}, *({name: options[name]} for name in options), options]
     with olr.Map.of_folder(TOP / "examples", program=program.path) as town:
         for settings in asked:
             raw = town.raw_answer(what, text, **settings)
@@ -92,6 +89,7 @@ def test_json_as_it_was(what: What, text: str, program: Program) -> None:
             made = json.dumps(answer.to_dict(), separators=(",", ":"))
             assert made.encode() == raw and raw.count(b'"parts"') == raw.count(b'"sectors"')
             assert (b'"parts"' in raw) == bool(settings.get("detail"))
+            assert (b'"spot"' in raw) == bool(settings.get("shape"))
             assert (b'"cut"' in raw) == (b'"rank"' in raw) == ("order" in settings)
 
 

@@ -109,7 +109,7 @@ def test_addresses(shown: Any) -> None:
     assert "--look" in kinds["greatest look"]
     assert kinds["look"] == "look is 5 at most on this server"
     assert kinds["other question"].startswith("'depth' is no option of /match: it has ref, after, ")
-    assert kinds["other question"].endswith("slack, height, page, detail")
+    assert kinds["other question"].endswith("slack, height, page, detail, shape")
 
 
 def test_python(shown: Any) -> None:

@@ -354,7 +354,7 @@ def test_the_description(server: Server) -> None:
                 if "get" in methods:
                     assert server.get(path_of(path[1:], "x", **least)).status == 400
     named = {it["name"] for it in document["paths"]["/match"]["get"]["parameters"]}
-    assert named == {"ref", "after", "profile", *TOLERANCES, *NUMBERS["match"], "detail"}
+    assert named == {"ref", "after", "profile", *TOLERANCES, *NUMBERS["match"], "detail", "shape"}
     marks = re.findall(r' id="([^"]+)"', page)
     assert len(marks) == len(set(marks))
     assert {line.split(" ")[0] for line in ROWS} < set(marks)

@@ -146,6 +146,8 @@ def test_answers(what: str, server: Server, described: Document) -> None:
             if what in ("match", "places"):
                 as_geojson = server.get(path, Accept="application/geo+json")
                 described.read(path, "GET", as_geojson)
+        path = path_of(what, text, shape="true")
+        described.read(path, "GET", server.get(path))
     for path in (f"/{what}", path_of(what, REFERENCE, radius=0)):
         described.read(path, "GET", server.get(path))
     described.read(f"/{what}", "GET", server.get(f"/{what}", Origin="https://evil.example"))

@@ -7,11 +7,11 @@ from pathlib import Path
 from typing import Any
 
 import olr
-from asking import draw_map, draw_references
+from asking import all_options, draw_map, draw_references
 from conftest import REFERENCE, TOP, Program, Tools
 from olr.asking.records import Answered
 from olr.errors import ProgramEnded
-from olr.model.questions import LIST, NUMBERS, OPTIONS, What, options_for
+from olr.model.questions import NUMBERS, OPTIONS, What
 from olr.serving.feature_texts import lines_of
 from olr.serving.features import OF_LINES
 from olr.serving.limits import MIB
@@ -78,7 +78,7 @@ def test_options_that_are_no_numbers(
     what: What, server: Server, program: Program, drawn: Path, texts: list[str]
 ) -> None:
     """Each address of a question that has them gives the program's answer, and others refuse them."""
-    options: dict[str, Any] = {name: LIST[name] for name in options_for(what)}
+    options = all_options(what)
     in_url = {name: str(value).lower() for name, value in options.items()}
     body = "".join(f"{text}\n" for text in texts[:9]).encode()
     query = "&".join(f"{name}={value}" for name, value in in_url.items())

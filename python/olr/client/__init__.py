@@ -3,6 +3,7 @@
 | module | subject |
 |---|---|
 | `map_client` | `olr.Map` |
+| `answering` | how its questions are asked and their answers read |
 | `source`, `store_source` | the map of files, or of a store, of which the parts are asked that references need |
 | `written` | `olr.answers`: answers that were written to a file |
 """

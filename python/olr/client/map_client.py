@@ -1,24 +1,20 @@
 """A map that can be asked: `olr.Map`."""
 
 from collections.abc import Callable, Iterable, Iterator, Mapping
-from contextlib import AbstractContextManager, closing, nullcontext
+from contextlib import AbstractContextManager, nullcontext
 from functools import partial
-from itertools import tee
 from pathlib import Path
 from typing import TYPE_CHECKING, Any, Literal, NoReturn, cast, overload
 
-from olr.asking.exchange import Asked, no_answer
 from olr.asking.files import MapFiles
 from olr.asking.patience import PATIENCE, require_patience
-from olr.asking.processes import Line
 from olr.asking.program import PathLike
+from olr.client.answering import Answering
 from olr.client.source import FilesSource
-from olr.errors import TimedOut
 from olr.extras import needed_by
-from olr.model.answers import Answer, AnswerOrFault, Candidates, Page, Places, Why, about
+from olr.model.answers import AnswerOrFault, Candidates, Page, Places, Why
 from olr.model.fault import Fault
 from olr.model.map_folder import store_of
-from olr.model.objects import RawLine, read_answer
 from olr.model.profiles import (
     DEFAULT_PROFILE,
     PROFILE,
@@ -44,7 +40,7 @@ if TYPE_CHECKING:
     from olr.geometry.network import Network
 
 
-class Map:
+class Map(Answering):
     """A map of nodes, lines and bans, with tolerances, that answers questions about references: `olr.Map("folder")`, or
     `olr.Map("country.gpkg")` for a store of `olr-tools regions`, a map of any size, of which it reads what a reference needs.
 
@@ -231,11 +227,17 @@ class Map:
         return self._network
 
     def match(
-        self, ref: str, *, page: int = 10, after: str | None = None, detail: bool = False
+        self,
+        ref: str,
+        *,
+        page: int = 10,
+        after: str | None = None,
+        detail: bool = False,
+        shape: bool = False,
     ) -> Page:
         """The first matchings of a reference, best first, or the first ones behind that of a cursor, such as the `next` of a page.
         They are `page` at most, from 1 to 1000. With `detail` each says what speaks for and against it: its likely cost, whether it turns
-        back, the parts of its penalties, and what the reference tells.
+        back, the parts of its penalties, and what the reference tells; with `shape` where on the earth it lies.
 
         Raises `Fault` for what is no cursor, and for one that no matching has with this reference, map and tolerances. Totals are in
         penalty points, lengths and positions in decimetres. Raises as `Map` says.
@@ -246,8 +248,14 @@ class Map:
         ...     page, town.match("CwVF+yN2yhpnBAFdAAsaFg==", after=page.next)
         ...
         (<Page: 3 matchings, total 12 to 31, more behind 31:1.2>, <Page: 3 matchings, total 35 to 89>)
+        >>> with olr.Map("examples") as town:
+        ...     best = town.match("CwVF+yN2yhpnBAFdAAsaFg==", shape=True).matchings[0]
+        ...
+        >>> best.shape.outer[0]
+        Spot(lon=7415720, lat=49871269)
         """
-        return cast(Page, self._answer("match", ref, {"page": page, "detail": detail}, after))
+        settings = {"page": page, "detail": detail, "shape": shape}
+        return cast(Page, self._answer("match", ref, settings, after))
 
     def pages(self, ref: str, *, page: int = 10, after: str | None = None) -> Iterator[Page]:
         """All pages of the matchings of a reference, from the first on or from a cursor on, of `page` matchings each: see `match`. If
@@ -288,10 +296,11 @@ class Map:
         most: int = 10,
         order: Literal["total", "likely"] = "total",
         detail: bool = False,
+        shape: bool = False,
     ) -> Places:
         """Whether a reference fits one place, or several. `apart` is in decimetres, from 0 to 1,000,000; `within` in penalty points,
         from 0 to 14,620; `look` in matchings, from 1 to 1,000,000; `most` in places, from 1 to 100. The places are in the order of their
-        totals, or with "likely" first those that the sender most likely meant; `detail` is as in `match`. Raises as `Map` says.
+        totals, or with "likely" first those that the sender most likely meant; `detail` and `shape` are as in `match`. Raises as `Map` says.
 
         >>> import olr
         >>> with olr.Map("examples/nodes.csv", "examples/lines.csv") as town:
@@ -305,12 +314,12 @@ class Map:
         [(2, 28.6, False), (1, 51.8, False)]
         """
         settings = {"apart": apart, "within": within, "look": look, "most": most}
-        options = {"order": order, "detail": detail}
+        options = {"order": order, "detail": detail, "shape": shape}
         return cast(Places, self._answer("places", ref, settings | options))
 
-    def why(self, ref: str, *, nearest: int = 8) -> Why:
-        """Why a reference has no matching. `nearest` is how many lines are told near each point, from 0 to 64. A remedy's value is in the
-        unit of its option. Raises as `Map` says.
+    def why(self, ref: str, *, nearest: int = 8, shape: bool = False) -> Why:
+        """Why a reference has no matching. `nearest` is how many lines are told near each point, from 0 to 64; with `shape` also where
+        each of them is nearest. A remedy's value is in the unit of its option. Raises as `Map` says.
 
         >>> import olr
         >>> with olr.Map("examples") as town:
@@ -318,11 +327,11 @@ class Map:
         ...
         <Why: leg 1, try radius 211, slack 1323, percent 59>
         """
-        return cast(Why, self._answer("why", ref, {"nearest": nearest}))
+        return cast(Why, self._answer("why", ref, {"nearest": nearest, "shape": shape}))
 
-    def candidates(self, ref: str, *, detail: bool = False) -> Candidates:
+    def candidates(self, ref: str, *, detail: bool = False, shape: bool = False) -> Candidates:
         """The candidates of each point of a reference. Positions are in decimetres, penalties in points; with `detail` each has the parts of
-        its penalty. Raises as `Map` says.
+        its penalty, and with `shape` where on the earth it is. Raises as `Map` says.
 
         >>> import olr
         >>> with olr.Map("examples") as town:
@@ -330,7 +339,7 @@ class Map:
         ...
         (Candidate(at=13, line=104, penalty=3),)
         """
-        return cast(Candidates, self._answer("candidates", ref, {"detail": detail}))
+        return cast(Candidates, self._answer("candidates", ref, {"detail": detail, "shape": shape}))
 
     @overload
     def answers(
@@ -340,6 +349,7 @@ class Map:
         *,
         page: int = ...,
         detail: bool = ...,
+        shape: bool = ...,
     ) -> Iterator[Page | Fault]:
         ...
 
@@ -355,18 +365,29 @@ class Map:
         most: int = ...,
         order: Literal["total", "likely"] = ...,
         detail: bool = ...,
+        shape: bool = ...,
     ) -> Iterator[Places | Fault]:
         ...
 
     @overload
     def answers(
-        self, what: Literal["why"], refs: Iterable[str | None], *, nearest: int = ...
+        self,
+        what: Literal["why"],
+        refs: Iterable[str | None],
+        *,
+        nearest: int = ...,
+        shape: bool = ...,
     ) -> Iterator[Why | Fault]:
         ...
 
     @overload
     def answers(
-        self, what: Literal["candidates"], refs: Iterable[str | None], *, detail: bool = ...
+        self,
+        what: Literal["candidates"],
+        refs: Iterable[str | None],
+        *,
+        detail: bool = ...,
+        shape: bool = ...,
     ) -> Iterator[Candidates | Fault]:
         ...
 
@@ -417,56 +438,6 @@ class Map:
         b'{"matchings":[],"next":null}'
         """
         return self._line(self._asked(what, settings), ref, after).answer
-
-    def _asked(self, what: What, settings: Mapping[str, Setting]) -> Asked:
-        """A question with the tolerances of this map. Raises as `words_of`."""
-        own = words_of(what, settings)
-        return Asked(what, (*self._words, *own))
-
-    def _answer(
-        self, what: What, ref: str, settings: Mapping[str, Setting], after: str | None = None
-    ) -> Answer:
-        """One answer. Raises `Fault`."""
-        asked = self._asked(what, settings)
-        return self._read(asked, self._line(asked, ref, after), ref)
-
-    def _line(self, asked: Asked, ref: str, after: str | None) -> RawLine:
-        """The line about one reference. Raises `Fault`, and `ToolError`."""
-        text = record_text(ref).decode()
-        more = [] if after is None else ["--after", cursor_of(after)]
-        with closing(self._source.about(asked, [text], *more)) as lines:
-            line = self._there(next(lines), text)
-        if line.fault is not None:
-            raise Fault(line.fault)
-        return line
-
-    def _answers(self, asked: Asked, refs: Iterator[str]) -> Iterator[AnswerOrFault]:
-        """The answers about references, in their order. Raises `ToolError`."""
-        refs, again = tee(refs)
-        with closing(self._source.about(asked, refs)) as lines:
-            for number, (found, ref) in enumerate(zip(lines, again), 1):
-                line = self._there(found, ref, number)
-                yield self._read(asked, line, ref) if line.fault is None else Fault(line.fault)
-
-    def _there(self, line: Line, ref: str, number: int | None = None) -> RawLine:
-        """A line. Raises `TimedOut` in place of that, with the reference, which has this number among many."""
-        if isinstance(line, RawLine):
-            return line
-        text = record_text(ref).decode()
-        which = repr(text) if number is None else f"reference {number}, {text!r}"
-        raise TimedOut(
-            f"olr answered nothing for {self._patience:g} seconds to {which}: ask again with more patience, or leave it out",
-            text,
-            number,
-        ) from line
-
-    def _read(self, asked: Asked, line: RawLine, ref: str) -> Answer:
-        """The answer of a line. Raises `ProgramEnded` if it is none."""
-        try:
-            found = read_answer(asked.what, line.answer, self._source.digest())
-        except ValueError as error:
-            raise no_answer(self._program or "olr", error) from error
-        return about(found, ref, self._asked_with)
 
     def _pages(self, ref: str, page: int, after: str | None) -> Iterator[Page]:
         """The pages from a cursor on."""

@@ -1,7 +1,7 @@
 """The answers of `olr`, with the names of its JSON. Names that are words of Python end with `_`: `class_`, `from_`, `not_`.
 
 Lengths and positions on lines are in decimetres, distances in centimetres, coordinates in microdegrees. What isn't there is None, and so is
-what is said with `detail=True` or `order="likely"` alone, where it wasn't asked for. docs/specification has what each of them means.
+what is said with `detail=True`, `shape=True` or `order="likely"` alone, where it wasn't asked for. docs/specification has what each of them means.
 """
 
 from collections.abc import Iterator, Mapping, Sequence
@@ -10,7 +10,7 @@ from typing import Any, Literal, TypeVar
 
 from olr.model.display import Displayed, Point, asked_for, counted, plain
 from olr.model.fault import Fault
-from olr.model.pieces import Pieces, Place
+from olr.model.pieces import Pieces, Place, Spot, Spots
 
 Known = TypeVar("Known")
 MOST_IDS = 6
@@ -105,7 +105,7 @@ class PenaltyParts:
 @dataclass(frozen=True)
 class Candidate:
     """A line on which a point may lie, and where: the position in decimetres, the penalty in points. From `parts` on all is None but with
-    `detail`."""
+    `detail`, and `spot` but with `shape`."""
 
     at: int
     line: int
@@ -121,6 +121,8 @@ class Candidate:
     """That of the line."""
     end: int | None = asked_for()
     """How far it lies from the proper end of its line, in decimetres: from the start, and for the last point from the end."""
+    spot: Spot | None = asked_for()
+    """Where it is, in microdegrees."""
 
 
 @dataclass(frozen=True, repr=False)
@@ -169,6 +171,29 @@ class Leg:
     """The greatest class that its lines may have."""
 
 
+@dataclass(frozen=True)
+class Shape:
+    """Where the route of a matching lies, and its parts: None for a part that is none."""
+
+    route: Spots
+    outer: Spots | None = None
+    """None for a point along a line, as `inner`."""
+    inner: Spots | None = None
+
+    def _absent(self) -> Sequence[str]:
+        # The program's JSON has null for a part that is none: that of a point along a line has no parts.
+        return () if "outer" in vars(self) else ("outer", "inner")
+
+
+@dataclass(frozen=True)
+class SpotsOnRoute:
+    """Where the places of a point along a line are, and their middle."""
+
+    earliest: Spot
+    latest: Spot
+    middle: Spot
+
+
 @dataclass(frozen=True, repr=False)
 class Matching(Displayed):
     """One way in which a reference fits the map. Lengths and positions are in decimetres, penalties in points.
@@ -197,6 +222,10 @@ class Matching(Displayed):
     """The likely cost, in thirtieths of a penalty point. None but with `detail`, as `turns_back`."""
     turns_back: bool | None = asked_for()
     """Whether the route goes from a line to one that leads back along it."""
+    shape: Shape | None = asked_for()
+    """None but with `shape`."""
+    spot: SpotsOnRoute | None = asked_for()
+    """None but with `shape`, of a point along a line."""
 
     def _absent(self) -> Sequence[str]:
         return ("earliest", "latest") if self.earliest is None else ("outer", "inner")
@@ -349,6 +378,8 @@ class NearLine:
     not_: tuple[str, ...]
     penalty: int | None = None
     sector: int | None = None
+    spot: Spot | None = asked_for()
+    """Where it is nearest to the point, in microdegrees. None but with `shape`."""
 
 
 @dataclass(frozen=True)

@@ -110,7 +110,7 @@ def asked_for() -> Any:
 def plain(value: Any) -> Any:
     """A value of an answer as dicts and lists, with the names of the program's JSON."""
     if is_dataclass(value):
-        hidden = set(value._absent()) if isinstance(value, Displayed) else set()
+        hidden = set(value._absent()) if hasattr(value, "_absent") else set()
         hidden |= {
             it.name for it in fields(value) if it.metadata and getattr(value, it.name) is None
         }

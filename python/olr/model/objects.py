@@ -22,6 +22,8 @@ from olr.model.answers import (
     Reference,
     ReferencePoint,
     Remedy,
+    Shape,
+    SpotsOnRoute,
     Verdict,
     Why,
     WhyLeg,
@@ -29,7 +31,7 @@ from olr.model.answers import (
 )
 from olr.model.fault import Fault
 from olr.model.late import Late
-from olr.model.pieces import Pieces, Place
+from olr.model.pieces import Pieces, Place, Spot, Spots
 from olr.model.questions import What
 
 Json = dict[str, Any]
@@ -78,7 +80,21 @@ def _points(found: Sequence[Json]) -> tuple[Candidate, ...]:
     if found and "parts" in found[0]:
         for one in found:
             one["parts"] = _made(PenaltyParts, _renamed(one["parts"]))
+    if found and "spot" in found[0]:
+        for one in found:
+            one["spot"] = Spot._make(one["spot"])
     return _all_made(Candidate, found)
+
+
+def _shape(found: Json, lists: Lists) -> Shape:
+    """Each part has the number of its list."""
+    return _made(
+        Shape,
+        {
+            name: None if number is None else Spots(lists.texts[number], lists.digest)
+            for name, number in found.items()
+        },
+    )
 
 
 def _matching(found: Json, lists: Lists) -> Matching:
@@ -91,6 +107,11 @@ def _matching(found: Json, lists: Lists) -> Matching:
     else:
         found["earliest"] = Place._make(found["earliest"])
         found["latest"] = Place._make(found["latest"])
+    if "shape" in found:
+        found["shape"] = _shape(found["shape"], lists)
+    if "spot" in found:
+        spots = {name: Spot._make(spot) for name, spot in found["spot"].items()}
+        found["spot"] = SpotsOnRoute(**spots)
     return _made(Matching, found)
 
 
@@ -122,7 +143,10 @@ def _places(found: Json, lists: Lists) -> Places:
 
 
 def _near(found: Json) -> NearLine:
-    return NearLine(**_renamed(found, not_=tuple(found["not"])))
+    near = _renamed(found, not_=tuple(found["not"]))
+    if "spot" in near:
+        near["spot"] = Spot._make(near["spot"])
+    return NearLine(**near)
 
 
 def _pair(found: Json) -> Pair:

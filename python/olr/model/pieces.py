@@ -1,4 +1,4 @@
-"""Places on lines, and pieces of lines."""
+"""Places on lines and pieces of lines, and where on the earth they lie."""
 
 import json
 from typing import NamedTuple
@@ -53,3 +53,19 @@ class Pieces(Late[Piece]):
     def length(self) -> int:
         """The length of all pieces together, in decimetres."""
         return sum(piece.to - piece.from_ for piece in self)
+
+
+class Spot(NamedTuple):
+    """A longitude and a latitude, in microdegrees."""
+
+    lon: int
+    lat: int
+
+
+class Spots(Late[Spot]):
+    """The points of a polyline, two at least."""
+
+    __slots__ = ()
+
+    def _read(self, text: bytes) -> tuple[Spot, ...]:
+        return tuple(map(Spot._make, json.loads(text)))

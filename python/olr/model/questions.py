@@ -136,6 +136,9 @@ OPTIONS = {
     "detail": Option(
         ("candidates", "match", "places"), "say what speaks for and against each matching too"
     ),
+    "shape": Option(
+        ("candidates", "match", "places", "why"), "say where on the earth each of them lies too"
+    ),
 }
 """What else a question can be asked with, likewise. The program gets the words of those alone that aren't at their defaults."""
 LIST: Mapping[str, Setting] = {

@@ -15,8 +15,8 @@ from typing import Any, Literal, get_args, get_origin, get_type_hints
 from olr.matching.columns import ANSWERS, IN_FRONT, Answers, InFront
 from olr.matching.tables import Column, Kind, sentences_of
 from olr.model import answers
-from olr.model.answers import Candidates, Matching, Page, Places, Reference, Why
-from olr.model.pieces import Piece, Pieces, Place
+from olr.model.answers import Candidates, Matching, Page, Places, Reference, Shape, Why
+from olr.model.pieces import Piece, Pieces, Place, Spot, Spots
 from olr.model.questions import What
 
 Json = dict[str, Any]
@@ -35,6 +35,7 @@ OF_QUESTION: Mapping[What, type] = {
 OF_ONE_KIND: Mapping[type, Collection[str]] = {
     Matching: ("earliest", "latest", "outer", "inner"),
     Reference: ("negative", "orientation", "side"),
+    Shape: ("outer", "inner"),
 }
 """Members that lines alone have, or points along lines alone."""
 OF_ROW = "verdict probability none_of_these reasons total margin turns_back fault".split()
@@ -123,9 +124,9 @@ def _of_hint(hint: Any) -> Json:
         return TEXT | {"enum": list(within)}
     if kind in (tuple, Sequence):
         return {"type": "array", "items": _of_hint(within[0])}
-    if hint is Pieces:
-        return {"type": "array", "items": _of_hint(Piece)}
-    if hint in (Piece, Place):
+    if hint in (Pieces, Spots):
+        return {"type": "array", "items": _of_hint(Piece if hint is Pieces else Spot)}
+    if hint in (Piece, Place, Spot):
         about = ", ".join(name.removesuffix("_") for name in hint._fields)
         many = len(hint._fields)
         return {

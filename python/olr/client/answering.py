@@ -1,0 +1,80 @@
+"""How the questions to a map are put in the program's words, and its lines become answers."""
+
+from collections.abc import Iterator, Mapping
+from contextlib import closing
+from itertools import tee
+from pathlib import Path
+from typing import TYPE_CHECKING, Any
+
+from olr.asking.exchange import Asked, no_answer
+from olr.asking.processes import Line
+from olr.client.source import FilesSource
+from olr.errors import TimedOut
+from olr.model.answers import Answer, AnswerOrFault, about
+from olr.model.fault import Fault
+from olr.model.objects import RawLine, read_answer
+from olr.model.questions import Setting, What, cursor_of, record_text, words_of
+
+if TYPE_CHECKING:
+    from olr.client.store_source import StoreSource
+
+
+class Answering:
+    """What `olr.Map` is below its questions."""
+
+    _source: "FilesSource | StoreSource"
+    _words: list[str]
+    """Those of its tolerances."""
+    _asked_with: dict[str, Any]
+    _program: Path | None
+    _patience: float | None
+
+    def _asked(self, what: What, settings: Mapping[str, Setting]) -> Asked:
+        """A question with the tolerances of this map. Raises as `words_of`."""
+        own = words_of(what, settings)
+        return Asked(what, (*self._words, *own))
+
+    def _answer(
+        self, what: What, ref: str, settings: Mapping[str, Setting], after: str | None = None
+    ) -> Answer:
+        """One answer. Raises `Fault`."""
+        asked = self._asked(what, settings)
+        return self._read(asked, self._line(asked, ref, after), ref)
+
+    def _line(self, asked: Asked, ref: str, after: str | None) -> RawLine:
+        """The line about one reference. Raises `Fault`, and `ToolError`."""
+        text = record_text(ref).decode()
+        more = [] if after is None else ["--after", cursor_of(after)]
+        with closing(self._source.about(asked, [text], *more)) as lines:
+            line = self._there(next(lines), text)
+        if line.fault is not None:
+            raise Fault(line.fault)
+        return line
+
+    def _answers(self, asked: Asked, refs: Iterator[str]) -> Iterator[AnswerOrFault]:
+        """The answers about references, in their order. Raises `ToolError`."""
+        refs, again = tee(refs)
+        with closing(self._source.about(asked, refs)) as lines:
+            for number, (found, ref) in enumerate(zip(lines, again), 1):
+                line = self._there(found, ref, number)
+                yield self._read(asked, line, ref) if line.fault is None else Fault(line.fault)
+
+    def _there(self, line: Line, ref: str, number: int | None = None) -> RawLine:
+        """A line. Raises `TimedOut` in place of that, with the reference, which has this number among many."""
+        if isinstance(line, RawLine):
+            return line
+        text = record_text(ref).decode()
+        which = repr(text) if number is None else f"reference {number}, {text!r}"
+        raise TimedOut(
+            f"olr answered nothing for {self._patience:g} seconds to {which}: ask again with more patience, or leave it out",
+            text,
+            number,
+        ) from line
+
+    def _read(self, asked: Asked, line: RawLine, ref: str) -> Answer:
+        """The answer of a line. Raises `ProgramEnded` if it is none."""
+        try:
+            found = read_answer(asked.what, line.answer, self._source.digest())
+        except ValueError as error:
+            raise no_answer(self._program or "olr", error) from error
+        return about(found, ref, self._asked_with)
