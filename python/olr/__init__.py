@@ -61,6 +61,7 @@ if TYPE_CHECKING:
     from olr.messages.reading import read_feed, read_messages
     from olr.model.answers import Candidates, Matching, Page, Places, Reference, Why
     from olr.model.fault import Fault
+    from olr.model.legs_and_lines import Legs, Lines
     from olr.model.pieces import Piece, Place
     from olr.pages.view.showing import view
 
@@ -70,6 +71,8 @@ __all__ = [
     "Candidates",
     "Confidence",
     "Fault",
+    "Legs",
+    "Lines",
     "Map",
     "MapRefused",
     "Matching",
@@ -103,6 +106,7 @@ _MODULES = {
     "olr.messages.reading": ("read_feed", "read_messages"),
     "olr.model.answers": ("Candidates", "Matching", "Page", "Places", "Reference", "Why"),
     "olr.model.fault": ("Fault",),
+    "olr.model.legs_and_lines": ("Legs", "Lines"),
     "olr.model.pieces": ("Piece", "Place"),
 }
 _OF_GEOMETRIES = {

@@ -10,7 +10,7 @@ from olr.asking.starting import failed_to_start
 from olr.errors import MapRefused, ProgramEnded, ProgramNotFound, ToolError
 from olr.model.fault import refusal_of
 from olr.model.objects import RawLine, raw_line
-from olr.model.questions import What
+from olr.model.questions import OfReference
 
 MOST_LINE_BYTES = 1 << 29
 """A line is shorter, if nothing else is said. It is held in memory."""
@@ -33,7 +33,7 @@ class UnknownWords(ProgramEnded):
 class Asked(NamedTuple):
     """What is asked about references: a question, with the words of its tolerances, other numbers and options."""
 
-    what: What
+    what: OfReference
     words: tuple[str, ...] = ()
 
     def about(self, reference: bytes, *more: str) -> bytes:

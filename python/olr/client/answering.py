@@ -1,6 +1,6 @@
 """How the questions to a map are put in the program's words, and its lines become answers."""
 
-from collections.abc import Iterator, Mapping
+from collections.abc import Iterator, Mapping, Sequence
 from contextlib import closing
 from itertools import tee
 from pathlib import Path
@@ -11,9 +11,22 @@ from olr.asking.processes import Line
 from olr.client.source import FilesSource
 from olr.errors import TimedOut
 from olr.model.answers import Answer, AnswerOrFault, about
+from olr.model.box import Box
 from olr.model.fault import Fault
-from olr.model.objects import RawLine, read_answer
-from olr.model.questions import Setting, What, cursor_of, record_text, words_of
+from olr.model.legs_and_lines import Legs, Lines
+from olr.model.objects import RawLine, read_any
+from olr.model.questions import (
+    MOST_LINES,
+    NEAR,
+    Setting,
+    What,
+    box_words,
+    cursor_of,
+    option_words,
+    record_text,
+    words_of,
+    words_of_number,
+)
 
 if TYPE_CHECKING:
     from olr.client.store_source import StoreSource
@@ -39,17 +52,31 @@ class Answering:
     ) -> Answer:
         """One answer. Raises `Fault`."""
         asked = self._asked(what, settings)
-        return self._read(asked, self._line(asked, ref, after), ref)
-
-    def _line(self, asked: Asked, ref: str, after: str | None) -> RawLine:
-        """The line about one reference. Raises `Fault`, and `ToolError`."""
-        text = record_text(ref).decode()
         more = [] if after is None else ["--after", cursor_of(after)]
+        found: Answer = self._read(asked.what, self._line(asked, ref, *more), ref)
+        return found
+
+    def _line(self, asked: Asked, ref: str, *more: str) -> RawLine:
+        """The line about one reference, asked with more words. Raises `Fault`, and `ToolError`."""
+        text = record_text(ref).decode()
         with closing(self._source.about(asked, [text], *more)) as lines:
-            line = self._there(next(lines), text)
-        if line.fault is not None:
-            raise Fault(line.fault)
-        return line
+            return _answered(self._there(next(lines), text))
+
+    def _legs(self, ref: str, at: str | None, near: int) -> Legs:
+        """The legs of a matching. Raises `Fault`."""
+        asked = Asked("legs", (*self._words, *words_of_number("near", NEAR, near)))
+        more = [] if at is None else ["--at", cursor_of(at, "at")]
+        found: Legs = self._read(asked.what, self._line(asked, ref, *more), ref)
+        return found
+
+    def _lines(self, box: Sequence[int], most: int, shape: bool) -> Lines:
+        """The lines in a box. Raises `Fault`."""
+        words = [*box_words(box), *words_of_number("most", MOST_LINES, most)]
+        text = " ".join(["lines", *words, *option_words("shape", shape)])
+        found = self._source.within(Box(*map(int, box)), text.encode())
+        line = _answered(self._there(found, text))
+        answer: Lines = self._read("lines", line)
+        return answer
 
     def _answers(self, asked: Asked, refs: Iterator[str]) -> Iterator[AnswerOrFault]:
         """The answers about references, in their order. Raises `ToolError`."""
@@ -57,7 +84,7 @@ class Answering:
         with closing(self._source.about(asked, refs)) as lines:
             for number, (found, ref) in enumerate(zip(lines, again), 1):
                 line = self._there(found, ref, number)
-                yield self._read(asked, line, ref) if line.fault is None else Fault(line.fault)
+                yield self._read(asked.what, line, ref) if line.fault is None else Fault(line.fault)
 
     def _there(self, line: Line, ref: str, number: int | None = None) -> RawLine:
         """A line. Raises `TimedOut` in place of that, with the reference, which has this number among many."""
@@ -71,10 +98,17 @@ class Answering:
             number,
         ) from line
 
-    def _read(self, asked: Asked, line: RawLine, ref: str) -> Answer:
+    def _read(self, what: str, line: RawLine, ref: str = "") -> Any:
         """The answer of a line. Raises `ProgramEnded` if it is none."""
         try:
-            found = read_answer(asked.what, line.answer, self._source.digest())
+            found = read_any(what, line.answer, self._source.digest())
         except ValueError as error:
             raise no_answer(self._program or "olr", error) from error
         return about(found, ref, self._asked_with)
+
+
+def _answered(line: RawLine) -> RawLine:
+    """A line with an answer. Raises `Fault`."""
+    if line.fault is not None:
+        raise Fault(line.fault)
+    return line

@@ -1,6 +1,6 @@
 """A map that can be asked: `olr.Map`."""
 
-from collections.abc import Callable, Iterable, Iterator, Mapping
+from collections.abc import Callable, Iterable, Iterator, Mapping, Sequence
 from contextlib import AbstractContextManager, nullcontext
 from functools import partial
 from pathlib import Path
@@ -14,6 +14,7 @@ from olr.client.source import FilesSource
 from olr.extras import needed_by
 from olr.model.answers import AnswerOrFault, Candidates, Page, Places, Why
 from olr.model.fault import Fault
+from olr.model.legs_and_lines import Legs, Lines
 from olr.model.map_folder import store_of
 from olr.model.profiles import (
     DEFAULT_PROFILE,
@@ -341,6 +342,32 @@ class Map(Answering):
         """
         return cast(Candidates, self._answer("candidates", ref, {"detail": detail, "shape": shape}))
 
+    def legs(self, ref: str, *, at: str | None = None, near: int = 1) -> Legs:
+        """The legs of a matching, the first one or that of a cursor. Of each it says whether another path of other roads is as short, or
+        longer by 1 m or by `near` thousandths at most, from 0 to 100; and whether worse roads are shorter. Lengths are in decimetres. Raises
+        as `match`.
+
+        >>> import olr
+        >>> with olr.Map("examples") as town:
+        ...     town.legs("CwVF/yN2yRpnBAFUAAgbpwYBAf9kK0Fa")
+        ...
+        <Legs: 2 legs of 12:1.1.1, 246.4 m, 401.7 m>
+        """
+        return self._legs(ref, at, near)
+
+    def lines(self, box: Sequence[int], *, most: int = 20_000, shape: bool = False) -> Lines:
+        """The lines of the map in a box, by their ids: `most` of them, from 1 to 200,000. The box is its west, south, east and north edge, in
+        microdegrees; whatever touches the box of a line counts. With `shape` each has its points. Raises `Fault` for a box that isn't one, and
+        as `Map` says.
+
+        >>> import olr
+        >>> with olr.Map("examples") as town:
+        ...     town.lines((7415000, 49871000, 7416000, 49872000))
+        ...
+        <Lines: 9 lines>
+        """
+        return self._lines(box, most, shape)
+
     @overload
     def answers(
         self,
@@ -437,7 +464,8 @@ class Map(Answering):
         ...
         b'{"matchings":[],"next":null}'
         """
-        return self._line(self._asked(what, settings), ref, after).answer
+        more = [] if after is None else ["--after", cursor_of(after)]
+        return self._line(self._asked(what, settings), ref, *more).answer
 
     def _pages(self, ref: str, page: int, after: str | None) -> Iterator[Page]:
         """The pages from a cursor on."""

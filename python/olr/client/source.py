@@ -1,10 +1,12 @@
 """The map of some files. Like the map of a store (`store_source`) it is asked by `about`."""
 
 from collections.abc import Generator, Iterable
+from contextlib import closing
 from typing import TYPE_CHECKING
 
 from olr.asking.exchange import Asked
 from olr.asking.processes import AHEAD, Line, Processes
+from olr.model.box import Box
 from olr.model.questions import record_text
 
 if TYPE_CHECKING:
@@ -19,6 +21,11 @@ class FilesSource(Processes):
         cursor. Raises `ToolError`."""
         texts = (asked.about(record_text(ref), *more) for ref in refs)
         return self.lines(texts, asked.at_once(AHEAD))
+
+    def within(self, box: Box, text: bytes) -> Line:
+        """The line of a record that asks about the lines in a box; or `TimedOut`. Raises `ToolError`."""
+        with closing(self.lines([text])) as lines:
+            return next(lines)
 
     def digest(self) -> str | None:
         """That of the nodes and lines that its answers are of; None where it isn't known."""

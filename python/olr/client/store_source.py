@@ -16,6 +16,7 @@ from olr.client.source import FilesSource
 from olr.errors import TimedOut, ToolError, closed_error, forked_error
 from olr.extras import needed_by
 from olr.geometry.network import Network
+from olr.model.box import Box
 from olr.model.fault import TOO_LARGE
 from olr.model.objects import RawLine
 from olr.model.questions import record_text
@@ -79,6 +80,14 @@ class StoreSource:
             chunk = _Chunk(texts)
             self._ask(asked, chunk, more)
             yield from chunk.lines()
+
+    def within(self, box: Box, text: bytes) -> Line:
+        """As `FilesSource.within`."""
+        if os.getpid() != self._owner:
+            raise forked_error()
+        with self._asking, self._store.reading() as store:
+            lines = store.lines_within_limits(box)
+            return TOO_LARGE_LINE if lines is None else self._region(lines, store).within(box, text)
 
     def _ask(self, asked: Asked, chunk: "_Chunk", more: Sequence[str]) -> None:
         """Asks about references, at least about all of those before the first one that has an error. Raises `ToolError`."""

@@ -12,7 +12,7 @@ but for `columns`.
 | `reference` | what a reference says, without a run of the program |
 | `questions`, `profiles` | what can be asked, with which numbers; tolerances that go together, by a name |
 | `asked_with` | with which numbers is asked, as a text and as a command of the program |
-| `answers` | the answers, with the names of the program's JSON |
+| `answers`, `legs_and_lines` | the answers, with the names of the program's JSON |
 | `display` | answers as plain dicts, in one line, and in a notebook |
 | `pieces`, `late` | pieces of lines; sequences that are read when they are first looked at |
 | `objects` | from JSON to these objects |

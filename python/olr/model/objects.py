@@ -31,6 +31,7 @@ from olr.model.answers import (
 )
 from olr.model.fault import Fault
 from olr.model.late import Late
+from olr.model.legs_and_lines import LegPaths, Legs, LineOfMap, Lines, OtherPath, ShorterPath
 from olr.model.pieces import Pieces, Place, Spot, Spots
 from olr.model.questions import What
 
@@ -166,11 +167,34 @@ def _why(found: Json, _: Lists) -> Why:
     return Why(legs, points, remedies, Verdict(**found["verdict"]))
 
 
-_READERS: Mapping[What, Callable[[Json, Lists], Answer]] = {
+def _leg(found: Json, lists: Lists) -> LegPaths:
+    other, shorter = found["other"], found["shorter"]
+    made: Json = {"pieces": _pieces(found["pieces"], lists)}
+    if other is not None:
+        made["other"] = OtherPath(**_renamed(other, pieces=_pieces(other["pieces"], lists)))
+    if shorter is not None:
+        made["shorter"] = ShorterPath(**_renamed(shorter))
+    return LegPaths(**_renamed(found, **made))
+
+
+def _legs(found: Json, lists: Lists) -> Legs:
+    return Legs(tuple(_leg(leg, lists) for leg in found["legs"]), found["matching"])
+
+
+def _lines(found: Json, lists: Lists) -> Lines:
+    for one in found["lines"]:
+        if "shape" in one:
+            one["shape"] = Spots(lists.texts[one["shape"]], lists.digest)
+    return Lines(_all_made(LineOfMap, list(map(_renamed, found["lines"]))), found["more"])
+
+
+_READERS: Mapping[str, Callable[[Json, Lists], Any]] = {
     "candidates": _candidates,
     "match": _page,
     "places": _places,
     "why": _why,
+    "legs": _legs,
+    "lines": _lines,
 }
 
 
@@ -235,11 +259,17 @@ def line_of(line: bytes, digest: str | None = None) -> tuple[str | None, int, An
 
 def read_answer(what: What, answer: bytes, digest: str | None) -> Answer:
     """What the JSON of an answer says, of a map of that digest. Raises `ValueError` if it isn't an answer to that question."""
+    found: Answer = read_any(what, answer, digest)
+    return found
+
+
+def read_any(what: str, answer: bytes, digest: str | None) -> Any:
+    """As `read_answer`, of `legs` and `lines` too."""
     texts: Sequence[bytes] = ()
     with _as_answer(what):
         if what == "match":
             answer, texts = _without_matchings(answer)
-        elif what == "places":
+        elif what in ("places", "legs", "lines"):
             answer, texts = _taken_apart(answer)
         return _READERS[what](json.loads(answer), Lists(texts, digest))
 

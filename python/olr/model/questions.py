@@ -2,7 +2,7 @@
 
 import re
 from collections import ChainMap
-from collections.abc import Iterable, Iterator, Mapping
+from collections.abc import Iterable, Iterator, Mapping, Sequence
 from keyword import iskeyword
 from math import isnan
 from numbers import Integral
@@ -11,6 +11,8 @@ from typing import Any, Literal, NamedTuple, TypeVar
 from olr.model.fault import Fault
 
 What = Literal["candidates", "match", "places", "why"]
+OfReference = Literal[What, "legs"]
+"""What else can be asked about one reference."""
 Setting = int | str
 """A number, or what an option is: a word, or whether it is given."""
 Item = TypeVar("Item")
@@ -104,6 +106,11 @@ NUMBERS: dict[What, dict[str, Number]] = {
     "why": {"nearest": Number(0, 64, 8, "lines", "show so many near each point")},
 }
 """The numbers of each question besides the tolerances."""
+NEAR = Number(
+    0, 100, 1, "thousandths", "tell another path of a leg that is longer by so much at most"
+)
+"""A number of `legs`, and of `lines`."""
+MOST_LINES = Number(1, 200_000, 20_000, "lines", "list so many")
 ALL = ChainMap(TOLERANCES, *NUMBERS.values())
 """The table of all numbers. What asks, shows or checks one is made of its row: options of commands, of addresses and of the page, arguments in
 Python, and what is said of them."""
@@ -152,6 +159,8 @@ depend on its length, unless looking was cut off."""
 BLANKS = " \t\r\n"
 CURSOR = re.compile("[0-9.:]+(@[0-9a-f]{64})?")
 """What a cursor looks like: of such texts the program says which is one."""
+MOST_EDGE = 10**9
+"""Microdegrees of an edge of a box."""
 MOST_CURSOR = 166
 """Letters of the longest one."""
 MOST_BYTES = 344
@@ -213,7 +222,11 @@ def _is_missing(cell: object) -> bool:
 def number_words(name: str, value: int) -> list[str]:
     """The words of a number, which may be one of numpy. Raises `TypeError` for what isn't one, and `Fault` for one that is out of its
     range, as the program does."""
-    known = ALL[name]
+    return words_of_number(name, ALL[name], value)
+
+
+def words_of_number(name: str, known: Number, value: int) -> list[str]:
+    """As `number_words`, of a number that isn't in the table."""
     wanted = f"{known.wanted_text(name)}, not {value!r}"
     if isinstance(value, bool) or not issubclass(type(value), Integral):
         raise TypeError(wanted)
@@ -298,10 +311,24 @@ def all_words(settings: Mapping[str, Any]) -> list[str]:
     ]
 
 
-def cursor_of(text: str) -> str:
-    """A text that looks like a cursor. Raises `TypeError` for what is no text, and else the fault of the program."""
+def box_words(box: Sequence[int]) -> list[str]:
+    """The words of a box: its least longitude and latitude, and its greatest ones, in microdegrees. Raises `TypeError` for what are no four
+    whole numbers, and else the fault of the program."""
+    wanted = f"a box is west, south, east and north, in microdegrees, not {box!r}"
+    if len(box) != 4 or not all(isinstance(edge, Integral) for edge in box):
+        raise TypeError(wanted)
+    west, south, east, north = edges = [int(edge) for edge in box]
+    if west > east or south > north or not -MOST_EDGE <= min(edges) <= max(edges) <= MOST_EDGE:
+        raise Fault("BadNumber box", wanted)
+    return ["--box", ",".join(map(str, edges))]
+
+
+def cursor_of(text: str, name: str = "after") -> str:
+    """A text that looks like a cursor, given by this name. Raises `TypeError` for what is no text, and else the fault of the program."""
     if not isinstance(text, str):
-        raise TypeError(f"after is a cursor, such as the next of a page, not {type(text).__name__}")
+        raise TypeError(
+            f"{name} is a cursor, such as the next of a page, not {type(text).__name__}"
+        )
     if not CURSOR.fullmatch(text) or len(text) > MOST_CURSOR:
         raise Fault("BadCursor")
     return text

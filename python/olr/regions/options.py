@@ -3,7 +3,7 @@
 from collections.abc import Mapping
 from dataclasses import dataclass, fields
 
-from olr.model.questions import NUMBERS, TOLERANCES
+from olr.model.questions import NEAR, NUMBERS, TOLERANCES
 
 
 @dataclass(frozen=True)
@@ -17,6 +17,8 @@ class Options:
     """In decimetres."""
     nearest: int = NUMBERS["why"]["nearest"].default
     """Lines near each point, of `why`."""
+    near: int = NEAR.default
+    """By how many thousandths of its length another path of a leg may be longer, of `legs`."""
 
     @classmethod
     def of(cls, numbers: Mapping[str, int]) -> "Options":

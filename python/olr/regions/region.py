@@ -14,7 +14,7 @@ from typing import NamedTuple
 
 from olr.arrays import Booleans, Floats, Integers
 from olr.model.answers import Reference
-from olr.model.questions import TOLERANCES, What
+from olr.model.questions import TOLERANCES, OfReference
 from olr.model.reference import Point, points_of
 from olr.model.road_map import MICRODEGREE
 from olr.regions.options import Options
@@ -27,6 +27,8 @@ INTERVAL = 586
 GREATEST_RADIUS = TOLERANCES["radius"].greatest
 """Of the tolerances, in metres; `slack` in decimetres."""
 GREATEST_PERCENT, GREATEST_SLACK = TOLERANCES["percent"].greatest, TOLERANCES["slack"].greatest
+LONGER = 10
+"""Decimetres by which another path of a leg may be longer, whatever `near` is."""
 POINT_MARGIN = 1.0
 """Metres by which the program's rounding may bring a line nearer to a point; 4 cm are enough."""
 PATH_MARGIN = 6.0
@@ -65,7 +67,7 @@ class _Points(NamedTuple):
         return Discs(self.lon, self.lat, np.full(len(self.lon), radius), self.scale)
 
 
-def discs_of(reference: Reference, options: Options, store: Store, what: What) -> list[Disc]:
+def discs_of(reference: Reference, options: Options, store: Store, what: OfReference) -> list[Disc]:
     """The discs of a reference, for a question asked with these numbers: `Store.lines_meeting` has the lines of its region.
 
     A text that is no reference needs no line at all: its fault is the same on each map. Raises `ToolError` if the store can't be
@@ -75,7 +77,7 @@ def discs_of(reference: Reference, options: Options, store: Store, what: What) -
 
 
 def discs_of_each(
-    references: Sequence[Sequence[Point]], options: Options, store: Store, what: What
+    references: Sequence[Sequence[Point]], options: Options, store: Store, what: OfReference
 ) -> list[Discs]:
     """The discs of each of some references, as `discs_of`, by their points. Many at once take a small part of the time."""
     points = _Points.of(references)
@@ -95,7 +97,7 @@ def discs_of_each(
     return [discs.taken(slice(first, end)) for first, end in zip([0, *behind], behind)]
 
 
-def _leg_discs(points: _Points, options: Options, shortness: Shortness, what: What) -> Discs:
+def _leg_discs(points: _Points, options: Options, shortness: Shortness, what: OfReference) -> Discs:
     """The disc of each leg: no path that the program looks for between candidates of its points leaves it."""
     first = np.flatnonzero(points.interval >= 0)
     start = points.discs(0.0).taken(first)
@@ -104,6 +106,10 @@ def _leg_discs(points: _Points, options: Options, shortness: Shortness, what: Wh
     interval = points.interval[first]
     longest = _longest(interval, options.percent, options.slack)
     asked = [(options.radius, longest)]
+    if what == "legs":
+        # Another path of a leg may be longer than the leg itself.
+        longer = np.maximum(LONGER, longest * options.near // 1000)
+        asked = [(options.radius, longest + longer)]
     if what == "why":
         far = _longest(interval, GREATEST_PERCENT, GREATEST_SLACK)
         asked = [(options.radius, far), (GREATEST_RADIUS, longest)]

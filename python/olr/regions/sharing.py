@@ -11,7 +11,7 @@ from typing import NamedTuple
 from olr.arrays import Integers
 from olr.curve import places_on_curve
 from olr.errors import ToolError
-from olr.model.questions import What
+from olr.model.questions import OfReference
 from olr.model.reference import Point
 from olr.model.road_map import Position
 from olr.regions.options import Options
@@ -42,7 +42,7 @@ class Shared(NamedTuple):
 
 
 def located(
-    references: Sequence[Sequence[Point] | None], options: Options, store: Store, what: What
+    references: Sequence[Sequence[Point] | None], options: Options, store: Store, what: OfReference
 ) -> list[Located]:
     """The regions of references by their points, for a question asked with these numbers. None stands for a text that is no reference:
     it needs no line, and is left out. Raises `ToolError` if the store can't be read."""
@@ -78,7 +78,7 @@ class Group(NamedTuple):
 
 
 def groups_of(
-    references: Sequence[Sequence[Point] | None], options: Options, store: Store, what: What
+    references: Sequence[Sequence[Point] | None], options: Options, store: Store, what: OfReference
 ) -> Iterator[Group]:
     """References by their points in groups that one map has room for, for a question asked with these numbers. None stands for a text that
     is no reference: it needs no line, and goes with the first group that has some. Raises `ToolError` if the store can't be read.

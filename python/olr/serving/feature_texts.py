@@ -2,6 +2,7 @@
 
 from collections.abc import Sequence
 from io import BufferedRandom, TextIOWrapper
+from typing import cast
 
 from olr.asking.records import Answered
 from olr.confidence.judged import Judging
@@ -31,7 +32,7 @@ TOO_LARGE = Fault("AnswerTooLarge")
 def write(task: FeaturesTask, network: Network, file: BufferedRandom) -> None:
     """Writes a collection: a feature for each matching, or for each place that is shown, the likeliest one first; or one without a
     geometry. Raises `ToolError` and `OSError`."""
-    what, digest = task.judged_by.asked.what, network.digest
+    what, digest = cast(What, task.judged_by.asked.what), network.digest
     counted: chunks.Counted = None
     if isinstance(task.candidates, Fault):
         counted = task.candidates
@@ -51,7 +52,7 @@ def write(task: FeaturesTask, network: Network, file: BufferedRandom) -> None:
 
 def lines_of(some: Sequence[Answered], network: Network, judged_by: JudgedBy) -> bytes:
     """The features of records, by what the program answered to them. Raises `ToolError`."""
-    what = judged_by.asked.what
+    what = cast(What, judged_by.asked.what)
     try:
         answered = [_answered(one, network, what) for one in some]
     except ValueError as error:
