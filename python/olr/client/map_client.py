@@ -16,6 +16,7 @@ from olr.model.answers import AnswerOrFault, Candidates, Page, Places, Why
 from olr.model.fault import Fault
 from olr.model.legs_and_lines import Legs, Lines
 from olr.model.map_folder import store_of
+from olr.model.sources import Sources
 from olr.model.profiles import (
     DEFAULT_PROFILE,
     PROFILE,
@@ -213,7 +214,7 @@ class Map(Answering):
         return self._source.files
 
     def network(self) -> "Network":
-        """The nodes and lines of this map, to draw its answers: of the same version of its files. They are read once, and those of a store
+        """The nodes and lines of this map: of the same version of its files. They are read once, and those of a store
         when they are asked for. Raises `MapRefused` if the files have changed since the map was first asked, and `ToolError` if they
         can't be read.
 
@@ -226,6 +227,16 @@ class Map(Answering):
         if self._network is None:
             self._network = self._source.network()
         return self._network
+
+    def sources(self) -> Sources:
+        """Where the lines of this map came from: the `ids.csv` of its folder, which is read once; none if there is no such file. Raises
+        `ToolError` if it can't be read.
+
+        >>> import olr
+        >>> print(olr.Map("examples").sources().get(104))
+        None
+        """
+        return self._source.sources()
 
     def match(
         self,
@@ -273,8 +284,10 @@ class Map(Answering):
         words_of("match", {"page": page})
         return self._pages(ref, page, None if after is None else cursor_of(after))
 
-    def matches(self, refs: Iterable[str | None], *, page: int = 10) -> Iterator[Page | Fault]:
-        """The first pages of many references, in their order: see `answers`. Raises as `answers`.
+    def matches(
+        self, refs: Iterable[str | None], *, page: int = 10, shape: bool = False
+    ) -> Iterator[Page | Fault]:
+        """The first pages of many references, in their order: see `match` and `answers`. Raises as `answers`.
 
         >>> import olr
         >>> with olr.Map("examples") as town:
@@ -285,7 +298,7 @@ class Map(Answering):
         BadLength 12
         """
         texts = many("matches takes many references", refs, "ask match about one")
-        return self.answers("match", texts, page=page)
+        return self.answers("match", texts, page=page, shape=shape)
 
     def places(
         self,

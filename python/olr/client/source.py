@@ -8,6 +8,7 @@ from olr.asking.exchange import Asked
 from olr.asking.processes import AHEAD, Line, Processes
 from olr.model.box import Box
 from olr.model.questions import record_text
+from olr.model.sources import Sources
 
 if TYPE_CHECKING:
     from olr.geometry.network import Network
@@ -15,6 +16,8 @@ if TYPE_CHECKING:
 
 class FilesSource(Processes):
     """The map of some files, of which all answers are of one version."""
+
+    _sources: Sources | None = None
 
     def about(self, asked: Asked, refs: Iterable[str], *more: str) -> Generator[Line, None, None]:
         """The lines about references, in their order, or `TimedOut` in the place of one. They are asked with more words, such as those of a
@@ -39,3 +42,9 @@ class FilesSource(Processes):
 
         with self.files.reading():
             return Network(self.files.nodes, self.files.lines)
+
+    def sources(self) -> Sources:
+        """Where its lines came from: the `ids.csv` beside them, which is read once. Raises `ToolError` if that can't be read."""
+        if self._sources is None:
+            self._sources = Sources.of_folder(self.files.lines.parent)
+        return self._sources

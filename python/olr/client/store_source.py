@@ -13,7 +13,7 @@ from olr.asking.exchange import Asked
 from olr.asking.files import MapFiles
 from olr.asking.processes import Line
 from olr.client.source import FilesSource
-from olr.errors import TimedOut, ToolError, closed_error, forked_error
+from olr.errors import TimedOut, ToolError, closed_error, forked_error, map_changed
 from olr.extras import needed_by
 from olr.geometry.network import Network
 from olr.model.box import Box
@@ -21,6 +21,7 @@ from olr.model.fault import TOO_LARGE
 from olr.model.objects import RawLine
 from olr.model.questions import record_text
 from olr.model.reference import read_points
+from olr.model.sources import Sources
 from olr.regions.current import CurrentStore
 from olr.regions.options import Options
 from olr.regions.scratch import scratch_files
@@ -48,6 +49,8 @@ class StoreSource:
         self._store = CurrentStore(file)
         self._made = made
         self._there: _Region | None = None
+        self._with_sources: CurrentStore | None = None
+        """Once more, for threads that look sources up."""
         self._asking = threading.RLock()
         self._owner = os.getpid()
         self._closed = False
@@ -68,6 +71,17 @@ class StoreSource:
         network = StoreNetwork(self._store.file)
         network.require_digest(self._store.digest)
         return network
+
+    def sources(self) -> Sources:
+        """As `FilesSource.sources`: they are looked up when they are asked for. Ask anew for each lot of lines: the file may be opened again. Raises
+        `MapRefused` too if the store has changed."""
+        with self._asking:
+            if self._with_sources is None:
+                self._with_sources = CurrentStore(self._store.file)
+            if self._with_sources.digest != self._store.digest:
+                raise map_changed(f"the store {self._store.file} has changed since it was opened")
+            with self._with_sources.reading() as store:
+                return Sources.of_store(store)
 
     def digest(self) -> str:
         """As `FilesSource.digest`: that of the store."""

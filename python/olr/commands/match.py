@@ -15,7 +15,13 @@ from olr.matching.asking import Asked
 from olr.matching.columns import NO_PLACE, OF_QUESTION, PIECES
 from olr.matching.lacking import Lacking
 from olr.matching.reasons import ReasonsBeside
-from olr.matching.writing import Output, Where, require_writable, writing_rows
+from olr.matching.writing import (
+    Output,
+    Where,
+    has_geometries,
+    require_writable,
+    writing_rows,
+)
 from olr.messages.message import Reading
 from olr.messages.message_file import message_file
 from olr.model.asked_with import Asking
@@ -105,7 +111,11 @@ def command(
                 second = written[1] if len(written) > 1 else None
                 settings: Mapping[str, Setting] = asking.numbers
                 settings = listing(settings) if places else settings
-                messages.write_answers(question, settings, part, sure.judging, written[0], second)
+                settings = {**settings, "shape": has_geometries(out)}
+                network = asked.network() if pieces and has_geometries(pieces) else None
+                messages.write_answers(
+                    question, settings, part, sure.judging, written[0], second, network
+                )
         nowhere = lacking.line()
     references = sum(messages.outcomes.values())
     click.echo(f"{out}: {written[0].rows:,} rows of {references:,} references")

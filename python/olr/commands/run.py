@@ -164,6 +164,10 @@ def command(
     if reading.keep and geometries is None:
         raise click.UsageError("--keep is for --geometries: lines have no room for more")
     rows = _rows(question, geometries, pieces, force, inputs)
+    run = RunFolder(out, along_curve=asked_map.is_store)
+    is_drawn = geometries is not None and geometries.suffix.lower() != ".csv"
+    if is_drawn or (resume and run.has_shapes()):
+        given["shape"] = True
     if confidence is not None and (geometries is None or question != "places"):
         raise click.UsageError("--confidence is for --geometries with --places")
     sure = None
@@ -197,7 +201,6 @@ def command(
         key=reading.key or KEY,
         base64=reading.base64,
     )
-    run = RunFolder(out, along_curve=asked_map.is_store)
     records = read_records(copy, reading._replace(keep=()), name)
     records = of_one_edition(records, copy, stamp, name)
     with run.begun(asked, records, resume) as grouped:

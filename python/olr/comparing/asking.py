@@ -37,7 +37,7 @@ class Comparison:
         """The numbers are those of `places`. Both maps are asked for all places that may be shown, and `judging` says which of them are.
         Reads both maps. Raises `ToolError`."""
         self._old, self._new = (_Asked(one, one.network(), judging) for one in (old, new))
-        self._settings, self._limits = listing(numbers), limits
+        self._settings, self._limits = listing(numbers) | {"shape": True}, limits
 
     def chunks(self, messages: Iterable[Message]) -> Iterator[Chunk]:
         """The references of messages, compared. Raises `ToolError`, also if a store changes meanwhile."""

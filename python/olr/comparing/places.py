@@ -24,12 +24,12 @@ from typing import NamedTuple
 from olr.arrays import Floats
 from olr.confidence.judged import Judged
 from olr.geometry.agreement import DIGITS, agreement, agreement_of_segments
-from olr.geometry.network import Network
+from olr.geometry.network import Network, middle
 from olr.geometry.parts import parts_of
 from olr.geometry.plane import Plane, Segments
 from olr.geometry.stretches import hausdorff, longest_lacking, within
 from olr.matching.rows import AnswerRows, rows_of
-from olr.model.answers import Places
+from olr.model.answers import Matching, Places
 from olr.model.fault import Fault
 
 
@@ -80,8 +80,8 @@ def likeliest_places(
 ) -> tuple[AnswerRows, list[Shape | None]]:
     """A row for each answer, of its likeliest place if it has one, and the shapes of these. Raises as `rows_of`."""
     firsts = [one and one._replace(places=one.places[:1]) for one in judgements]
-    rows = AnswerRows(rows_of(answers, firsts, [None] * len(answers), network), network)
-    along = _along(rows, network)
+    rows = AnswerRows(rows_of(answers, firsts, [None] * len(answers)), network)
+    along = _along([one for one in rows.matchings if one is not None], network)
     shapes: list[Shape | None] = []
     for row, points in zip(rows.rows, rows.shapes.each()):
         if row.matching is None:
@@ -91,11 +91,16 @@ def likeliest_places(
     return rows, shapes
 
 
-def _along(rows: AnswerRows, network: Network) -> Iterator[tuple[Floats, Floats]]:
+def _along(matchings: Sequence[Matching], network: Network) -> Iterator[tuple[Floats, Floats]]:
     """The decimetre behind each point along a line, and its route."""
-    if rows.halfway:
-        routes = parts_of([route for route, _ in rows.halfway])
-        behind = [(one.line, max(one.at - 1, 0), max(one.at, 1)) for _, one in rows.halfway]
+    halfway = [
+        (one.route, middle(one.route, one.earliest, one.latest))
+        for one in matchings
+        if one.earliest is not None and one.latest is not None
+    ]
+    if halfway:
+        routes = parts_of([route for route, _ in halfway])
+        behind = [(one.line, max(one.at - 1, 0), max(one.at, 1)) for _, one in halfway]
         pieces = np.concatenate([behind, routes.pieces])
         counts = np.concatenate([np.ones(len(behind), dtype=np.int64), routes.counts])
         lines = network.polylines(pieces, counts).each()

@@ -4,7 +4,7 @@ import numpy as np
 
 from olr.comparing.asking import Chunk
 from olr.comparing.columns import CHANGES, ChangeRow, ChangeRows, alternating
-from olr.geometry.network import Polylines
+from olr.geometry.parts import Polylines
 from olr.matching.rows import Rows
 from olr.matching.tables import values_of
 from olr.matching.writing import Sink

@@ -6,7 +6,7 @@ objects: these are shapely's.
 
 from collections.abc import Iterable, Sequence
 from pathlib import Path
-from typing import TYPE_CHECKING, NamedTuple, Protocol
+from typing import TYPE_CHECKING, Protocol
 
 from olr.asking.program import PathLike
 from olr.content import digest_of
@@ -14,13 +14,14 @@ from olr.errors import MapRefused, ToolError
 from olr.extras import needed_by
 from olr.model.display import note_network
 from olr.model.map_folder import LINES, NODES, store_of
-from olr.model.pieces import Piece, Pieces, Place
+from olr.model.pieces import Pieces, Place
 from olr.model.sources import Sources
 
 with needed_by("olr.Network", "geo"):
     import numpy as np
 
     from olr.arrays import Booleans, Floats, Integers
+    from olr.geometry.parts import Polylines
     from olr.model.columns import joined_columns, read_columns
 
 if TYPE_CHECKING:
@@ -38,19 +39,6 @@ class OnLine(Protocol):
     @property
     def at(self) -> int:
         """In decimetres from its start."""
-
-
-class Polylines(NamedTuple):
-    """Polylines, one behind the other."""
-
-    points: Floats
-    """All their points: longitude and latitude in degrees."""
-    sizes: Integers
-    """How many points each has: at least two, or none."""
-
-    def each(self) -> list[Floats]:
-        """The points of each."""
-        return np.split(self.points, np.cumsum(self.sizes))[:-1]
 
 
 class Network:
@@ -397,21 +385,6 @@ def middle(route: Pieces, earliest: Place, latest: Place) -> Place:
             return Place(line, start + wanted)
         wanted -= end - start
     return latest
-
-
-def between(route: Pieces, earliest: Place, latest: Place) -> list[Piece]:
-    """The pieces of a route from one place on it to another one, the first of which doesn't lie behind the second. Where they are one
-    place that is a piece without a length."""
-    found: list[Piece] = []
-    for line, start, end in route:
-        if not found:
-            if line != earliest.line or not start <= earliest.at <= end:
-                continue
-            start = earliest.at
-        if line == latest.line and start <= latest.at <= end:
-            return [*found, Piece(line, start, latest.at)]
-        found.append(Piece(line, start, end))
-    return found
 
 
 def _line_string(points: Floats) -> "LineString":

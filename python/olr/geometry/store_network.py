@@ -9,7 +9,8 @@ from typing import TYPE_CHECKING
 
 from olr.arrays import Floats, Integers
 from olr.errors import ToolError, map_changed
-from olr.geometry.network import Network, Polylines
+from olr.geometry.network import Network
+from olr.geometry.parts import Polylines
 from olr.model.display import note_network
 from olr.model.map_folder import store_of
 from olr.model.road_map import MICRODEGREE

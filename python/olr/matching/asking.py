@@ -10,6 +10,7 @@ from itertools import islice, tee
 from olr.client.map_client import Map
 from olr.confidence.judged import Judging
 from olr.confidence.shown import listed_within
+from olr.geometry.network import Network
 from olr.matching.chunks import Answered, chunks_of
 from olr.matching.lacking import Lacking
 from olr.matching.reasons import ReasonsBeside, rows_of_reasons
@@ -58,19 +59,20 @@ class Asked:
         judging: Judging,
         rows: Sink,
         pieces: Sink | None,
+        network: Network | None,
     ) -> None:
-        """Asks where the references are, and writes rows of the answers, judged, and of their pieces. Raises `ToolError`."""
-        network = self._map.network()
+        """Asks where the references are, and writes rows of the answers, judged, and of their pieces, which have geometries if there is a
+        network. Raises `ToolError`."""
         messages, again = tee(self._messages)
         counted = self._map.answers("candidates", (message.reference for message in again))
         both = zip(self._answered(messages, question, settings), counted, strict=True)
         answered = (Answered(message, answer, count) for (message, answer), count in both)
-        for chunk in chunks_of(answered, network, judging):
+        for chunk in chunks_of(answered, self._map, judging):
             self.cut_off += chunk.cut_off()
             made = chunk.rows(part)
             rows.add(chunk.items, self._beside.rows(chunk, made) if self._beside else made)
             if pieces is not None:
-                pieces.add(chunk.items, chunk.pieces())
+                pieces.add(chunk.items, chunk.pieces(network))
 
     def write_reasons(self, numbers: Mapping[str, int], rows: Sink) -> None:
         """Asks why references fit nothing, and writes a row for each. Raises `ToolError`."""

@@ -11,6 +11,7 @@ from olr.matching.rows import AnswerRows, Extent, Located, PieceRows, Row, Rows,
 from olr.matching.tables import values_of
 from olr.model.answers import AnswerOrFault, Candidates, Page, Places
 from olr.model.fault import Fault
+from olr.model.sources import HasSources
 
 Item = TypeVar("Item")
 Counted = Candidates | Fault | None
@@ -32,10 +33,10 @@ class Chunk(Generic[Item]):
     """Some answers, judged."""
 
     def __init__(
-        self, answered: Sequence[Answered[Item]], network: Network, judging: Judging
+        self, answered: Sequence[Answered[Item]], sources: HasSources | None, judging: Judging
     ) -> None:
         """See `chunks_of`."""
-        self._network = network
+        self._sources = sources
         self._counts = [_number_of(one.candidates) for one in answered]
         self.items = [one.item for one in answered]
         self.answers = [_located(one.answer) for one in answered]
@@ -46,35 +47,37 @@ class Chunk(Generic[Item]):
         return sum(one is not None and one.is_cut_off for one in self.judgements)
 
     def rows(self, extent: Extent = "outer") -> Rows:
-        """The table of answers: of lines the outer or the inner part. Raises as `rows_of`."""
-        made = AnswerRows(self._rows, self._network, extent)
+        """The table of answers: of lines the outer or the inner part. They have the geometries that were asked for. Raises as `Sources`."""
+        made = AnswerRows(self._rows, self._sources, extent)
         return Rows([row.number for row in made.rows], values_of(ANSWERS, made), made.shapes)
 
-    def pieces(self) -> Rows:
-        """The table of pieces. Raises as `rows_of`."""
-        made = PieceRows(self._rows, self._network)
+    def pieces(self, network: Network | None) -> Rows:
+        """The table of pieces, which have geometries if a network is given. Raises `ToolError` if it hasn't a line of an answer, `MapRefused`
+        if it is of another version of the map, and as `Sources`."""
+        made = PieceRows(self._rows, self._sources, network)
         return Rows([row.number for row in made.rows], values_of(PIECES, made), made.shapes)
 
     @cached_property
     def _rows(self) -> list[Row]:
-        return rows_of(self.answers, self.judgements, self._counts, self._network)
+        return rows_of(self.answers, self.judgements, self._counts)
 
 
 def chunks_of(
-    answered: Iterable[Answered[Item]], network: Network, judging: Judging = Judging()
+    answered: Iterable[Answered[Item]],
+    sources: HasSources | None,
+    judging: Judging = Judging(),
 ) -> Iterator[Chunk[Item]]:
-    """Answers in chunks of some hundred rows. Raises `TypeError` for an answer to another question, `ToolError` if the network hasn't a line
-    of one, and `MapRefused` if it is of another version of the map."""
+    """Answers in chunks of some hundred rows. Raises `TypeError` for an answer to another question."""
     some: list[Answered[Item]] = []
     rows = 0
     for one in answered:
         some.append(one)
         rows += _count(_located(one.answer))
         if rows >= ROWS:
-            yield Chunk(some, network, judging)
+            yield Chunk(some, sources, judging)
             some, rows = [], 0
     if some:
-        yield Chunk(some, network, judging)
+        yield Chunk(some, sources, judging)
 
 
 def _located(answer: AnswerOrFault) -> Located:

@@ -7,6 +7,7 @@ from olr.extras import needed_by
 from olr.model.answers import AboutReference, Page, Places
 from olr.model.fault import Fault
 from olr.model.questions import many
+from olr.model.sources import HasSources
 
 with needed_by("olr.to_geodataframe", "geo"):
     import geopandas
@@ -30,7 +31,7 @@ ASKED_WITH = "asked_with"
 
 def to_geodataframe(
     answers: Iterable[Located],
-    network: Network,
+    sources: HasSources | None = None,
     keys: Iterable[object] | None = None,
     part: Extent = "outer",
     candidates: Iterable[Counted] | None = None,
@@ -41,21 +42,23 @@ def to_geodataframe(
     """A row for each matching of pages, and for each place of answers to `places`, in the order of the answers, in metres and degrees
     (EPSG:4326).
 
-    The geometry is the line of the outer or the inner part; of a point along a line it is the point halfway between its two places.
+    The geometry is the line of the outer or the inner part; of a point along a line it is the point halfway between its two places. Answers
+    have it that were asked for with `shape=True`.
     An answer without a matching, and a fault, has one row without a geometry, so no reference is lost. `key` comes from `keys`, of
     which there have to be as many as answers, and else counts answers from 0. `candidates` are the answers to that question about
-    the same references: without them nobody knows how many there are. Sources and names are those of `network.sources()`.
+    the same references: without them nobody knows how many there are. Sources and names are those of `sources`, which is the map that was asked: without
+    it these columns are empty.
 
     The columns of places are those of `olr-tools match --places` if the answers are asked for as it does: by `within=14620, most=100,
-    order="likely", detail=True`. Then `within` and `most` here say which of them are shown, as those options of the command do; where either is
+    order="likely", detail=True, shape=True`. Then `within` and `most` here say which of them are shown, as those options of the command do; where either is
     given the other one is at its default. Probabilities are by `confidence`, one of the same tolerances such as `olr.Confidence.default()`;
     without it these columns are empty. Without `order="likely"` `likely` is empty, and `rank` is the number in the answer; without `detail`
     `ends_m` and `turns_back` are empty.
 
     >>> import olr
     >>> with olr.Map("examples") as town:
-    ...     pages = town.matches(["CwVF/yN2yRpnBAFUAAgbpwYBAf9kK0Fa", "CwVGnSN2zhvHCgDX"])
-    ...     table = olr.to_geodataframe(pages, town.network(), keys=["m1", "m2"])
+    ...     pages = town.matches(["CwVF/yN2yRpnBAFUAAgbpwYBAf9kK0Fa", "CwVGnSN2zhvHCgDX"], shape=True)
+    ...     table = olr.to_geodataframe(pages, town, keys=["m1", "m2"])
     ...
     >>> table[["key", "verdict", "lines", "outer_m", "fault"]].values.tolist()
     [['m1', 'match', '104;107;201;501', 561.5, None], ['m2', 'fault', None, nan, 'BadLength 12']]
@@ -64,16 +67,14 @@ def to_geodataframe(
 
     `attrs` has the `asked_with` of the maps that were asked, if it is the same for all answers that know it.
 
-    The columns and their types are the same whatever is in them: `Int64`, `float64`, or `object` with texts or None. Raises
-    `MapRefused` if the network is of another version of the map than an answer, `ToolError` if it hasn't a line of one, `ValueError`
-    if there are more keys than answers or fewer, the part is another one, or places were asked for otherwise than a `confidence` needs,
-    and `TypeError` for one answer or one key in place of many.
+    The columns and their types are the same whatever is in them: `Int64`, `float64`, or `object` with texts or None. Raises `ValueError`
+    for answers without geometries, if there are more keys than answers or fewer, the part is another one, or places were asked for otherwise than
+    a `confidence` needs, and `TypeError` for one answer or one key in place of many; and `ToolError` if the sources can't be read.
     """
     require_extent(part)
-    _require_network("to_geodataframe", network)
     asked: list[Mapping[str, Any]] = []
-    answered = _answered("to_geodataframe", asked, answers, keys, candidates)
-    chunks = chunks_of(answered, network, Judging(confidence, _shown(within, most)))
+    answered = map(_with_shape, _answered("to_geodataframe", asked, answers, keys, candidates))
+    chunks = chunks_of(answered, sources, Judging(confidence, _shown(within, most)))
     return _table(((one.items, one.rows(part)) for one in chunks), ANSWERS, keys is None, asked)
 
 
@@ -91,7 +92,8 @@ def to_pieces(
     or place, then those of its inner part. A point along a line has the part `point`: what lies between its two positions.
 
     `key` and `rank` are those of `to_geodataframe`, of the same answers. `piece` counts from 1 along a part. An answer that fits
-    nothing has no row. Raises as `to_geodataframe`.
+    nothing has no row. Raises as `to_geodataframe`, `MapRefused` if the network is of another version of the map than an answer, and `ToolError` if
+    it hasn't a line of one.
 
     >>> import olr
     >>> with olr.Map("examples") as town:
@@ -101,17 +103,25 @@ def to_pieces(
     >>> pieces[["part", "line", "from_m", "to_m"]].values.tolist()[0]
     ['outer', 104, 87.9, 243.5]
     """
-    _require_network("to_pieces", network)
-    asked: list[Mapping[str, Any]] = []
-    chunks = chunks_of(_answered("to_pieces", asked, answers, keys), network)
-    return _table(((one.items, one.pieces()) for one in chunks), PIECES, keys is None, asked)
-
-
-def _require_network(call: str, network: object) -> None:
-    """Raises `TypeError` for another thing than a network."""
     if not isinstance(network, Network):
         name = type(network).__name__
-        raise TypeError(f"{call} takes the network of a map, such as town.network(), not {name}")
+        raise TypeError(f"to_pieces takes the network of a map, such as town.network(), not {name}")
+    asked: list[Mapping[str, Any]] = []
+    chunks = chunks_of(_answered("to_pieces", asked, answers, keys), network)
+    rows = ((one.items, one.pieces(network)) for one in chunks)
+    return _table(rows, PIECES, keys is None, asked)
+
+
+def _with_shape(one: "Answered[object]") -> "Answered[object]":
+    """An answer with geometries, or without any matching. Raises `ValueError` for another one."""
+    found = one.answer
+    if isinstance(found, Page):
+        matchings = found.matchings[:1]
+    else:
+        matchings = [it.matching for it in found.places[:1]] if isinstance(found, Places) else []
+    if any(it.shape is None for it in matchings):
+        raise ValueError("these answers have no geometries: ask for them with shape=True")
+    return one
 
 
 def _answered(

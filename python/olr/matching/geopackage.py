@@ -17,7 +17,7 @@ from typing import Any
 from olr.arrays import Floats, Integers
 from olr.curve import places_on_curve
 from olr.errors import ToolError
-from olr.geometry.network import Polylines
+from olr.geometry.parts import Polylines
 from olr.matching.shapes import blobs, boxes
 from olr.matching.tables import Columns, Kind
 from olr.regions.geopackage import insert, os_error

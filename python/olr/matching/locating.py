@@ -79,14 +79,14 @@ def locate(
     with opened(map) as asked:
         sure = judging_with(confidence, asked.tolerances, {}).judging.confidence
         answers: Iterator[Any] = (
-            asked.answers("places", texts, **LIST)
+            asked.answers("places", texts, shape=True, **LIST)
             if places
-            else asked.answers("match", texts, page=1)
+            else asked.answers("match", texts, page=1, shape=True)
         )
         with closing(watched(answers, "locating", len(texts))) as shown:
             found = to_geodataframe(
                 _with_faults(shown, cells),
-                asked.network(),
+                asked,
                 part=part,
                 candidates=asked.answers("candidates", texts),
                 confidence=sure,

@@ -5,7 +5,7 @@ from collections.abc import Sequence
 from typing import NamedTuple
 
 from olr.client.map_client import Map
-from olr.geometry.network import Polylines
+from olr.geometry.parts import Polylines
 from olr.matching.chunks import Chunk
 from olr.matching.columns import NO_PLACE, REASONS, Reasons
 from olr.matching.lacking import Lacking, is_without_place

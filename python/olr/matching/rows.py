@@ -8,12 +8,13 @@ from typing import Any, Literal, NamedTuple, TypeVar, get_args
 
 from olr.arrays import Booleans, Floats, Integers
 from olr.confidence.judged import Judged, JudgedPlace
-from olr.geometry.network import Network, Polylines, between, middle
-from olr.geometry.parts import Parts, parts_of
+from olr.geometry.network import Network
+from olr.geometry.parts import Parts, Polylines, parts_of, polylines_of
 from olr.model.answers import Matching, Page, Places
 from olr.model.fault import Fault
-from olr.model.pieces import Pieces, Place
+from olr.model.pieces import Pieces, Spots, between
 from olr.model.road_map import Origin
+from olr.model.sources import HasSources
 
 Located = Page | Places | Fault
 """An answer that says where a reference is."""
@@ -70,25 +71,28 @@ class Row(NamedTuple):
             return Pieces(between(one.route, one.earliest, one.latest))
         return one.outer if extent == "outer" else one.inner
 
+    def shape(self, extent: Extent) -> Spots | None:
+        """Where that lies; of a point along a line where its middle is. None too where nobody asked."""
+        one = self.matching
+        if one is None or one.shape is None:
+            return None
+        if one.spot is not None:
+            return Spots([one.spot.middle])
+        return one.shape.outer if extent == "outer" else one.shape.inner
+
 
 def rows_of(
     answers: Sequence[Located],
     judgements: Sequence[Judged | None],
     candidates: Sequence[int | None],
-    network: Network,
 ) -> list[Row]:
     """A row for each matching of pages, and for each place of answers to `places` that is shown, in their order; one for an answer that has
-    none. Raises `MapRefused` if the network is of another version of the map than an answer.
-    """
-    rows = [
+    none."""
+    return [
         row
         for number, one in enumerate(zip(answers, judgements, candidates, strict=True))
         for row in _rows(number, *one)
     ]
-    for row in rows:
-        if row.matching is not None:
-            network.require_version_of(row.matching.route)
-    return rows
 
 
 def _rows(number: int, answer: Located, judged: Judged | None, count: int | None) -> list[Row]:
@@ -109,11 +113,13 @@ def _rows(number: int, answer: Located, judged: Judged | None, count: int | None
 
 
 class AnswerRows:
-    """Rows of answers, with what they have of the map."""
+    """Rows of answers."""
 
-    def __init__(self, rows: Sequence[Row], network: Network, extent: Extent = "outer") -> None:
-        """Rows that show the outer or the inner part of a location."""
-        self.rows, self._network, self._extent = rows, network, extent
+    def __init__(
+        self, rows: Sequence[Row], sources: HasSources | None = None, extent: Extent = "outer"
+    ) -> None:
+        """Rows that show the outer or the inner part of a location. Without `sources` nobody knows where lines came from."""
+        self.rows, self._sources, self._extent = rows, sources, extent
         self.matchings = [row.matching for row in rows]
         self.places = [row.place for row in rows]
         self.firsts = [
@@ -179,31 +185,13 @@ class AnswerRows:
         return _filled(there, metres[there])
 
     @cached_property
-    def halfway(self) -> list[tuple[Pieces, Place]]:
-        """Of each row that is a point along a line the route, and the place on it halfway between the two positions."""
-        return [
-            (one.route, middle(one.route, one.earliest, one.latest))
-            for one in self.matchings
-            if one is not None and one.earliest is not None and one.latest is not None
-        ]
-
-    @cached_property
     def shapes(self) -> Polylines:
         """The geometry of each row: the line of what is shown, or the point halfway between two positions."""
-        counts = np.where(self._are_points, 0, self._shown.counts)
-        of_lines = ~np.repeat(self._are_points, self._shown.counts)
-        lines = self._network.polylines(self._shown.pieces[of_lines], counts)
-        if not self.halfway:
-            return lines
-        at = (np.cumsum(lines.sizes) - lines.sizes)[self._are_points]
-        places = np.array([place for _, place in self.halfway], dtype=np.int64)
-        points = self._network.points_at(places)
-        sizes = np.where(self._are_points, 1, lines.sizes)
-        return Polylines(np.insert(lines.points, at, points, axis=0), sizes)
+        return polylines_of([row.shape(self._extent) for row in self.rows])
 
     @cached_property
     def _lines(self) -> "_Lines":
-        return _Lines(self._shown.pieces[:, 0], self._network)
+        return _Lines(self._shown.pieces[:, 0], self._sources)
 
     def _each(self, words: Sequence[Item]) -> list[Sequence[Item]]:
         """The words of each row, of which each piece has one."""
@@ -215,7 +203,13 @@ class PieceRows:
     """Rows of the pieces of rows: those of the outer and of the inner part of each; of a point along a line those between its two positions,
     as the part `point`."""
 
-    def __init__(self, rows: Sequence[Row], network: Network) -> None:
+    def __init__(
+        self, rows: Sequence[Row], sources: HasSources | None, network: Network | None
+    ) -> None:
+        """Without a network they have no geometries. Raises `MapRefused` if it is of another version of the map than an answer."""
+        for row in rows:
+            if row.matching is not None and network is not None:
+                network.require_version_of(row.matching.route)
         extents: tuple[Extent, Extent] = ("outer", "inner")
         parts = [
             (row, "point" if row.is_point() else extent, row.pieces(extent))
@@ -232,22 +226,24 @@ class PieceRows:
         self.lines: list[int] = found.pieces[:, 0].tolist()
         self.starts: list[float] = (found.pieces[:, 1] / 10).tolist()
         self.ends: list[float] = (found.pieces[:, 2] / 10).tolist()
-        self.distinct = _Lines(found.pieces[:, 0], network)
+        self.distinct = _Lines(found.pieces[:, 0], sources)
 
     @property
     def shapes(self) -> Polylines:
         """The line of each row."""
+        if self._network is None:
+            return polylines_of([None] * len(self._pieces))
         return self._network.polylines(self._pieces, np.ones(len(self._pieces), dtype=np.int64))
 
 
 class _Lines:
     """Lines of which many are there several times: what they have is worked out once."""
 
-    def __init__(self, lines: Integers, network: Network) -> None:
+    def __init__(self, lines: Integers, sources: HasSources | None) -> None:
         """By their ids."""
         ids, self._numbers = np.unique(lines, return_inverse=True)
         self._ids: list[int] = ids.tolist()
-        self._network = network
+        self._sources = sources
 
     def texts(self) -> list[str]:
         """The ids."""
@@ -255,14 +251,15 @@ class _Lines:
 
     def of_sources(self, value: Callable[[Origin], Item]) -> list[Item | None]:
         """What the source of each line has, if there is one."""
-        if not self._network.sources():
+        if not self._origins:
             return [None] * len(self._numbers)
         return self._each([None if one is None else value(one) for one in self._origins])
 
     @cached_property
     def _origins(self) -> list[Origin | None]:
-        sources = self._network.sources()
-        return [sources.get(line) for line in self._ids]
+        """Of each line; nothing where nobody knows one."""
+        found = None if self._sources is None else self._sources.sources()
+        return [found.get(line) for line in self._ids] if found else []
 
     def _each(self, values: Sequence[Item]) -> list[Item]:
         result: list[Item] = np.array(values, dtype=object)[self._numbers].tolist()

@@ -8,7 +8,7 @@ import struct
 from functools import cache
 
 from olr.arrays import Floats, Integers
-from olr.geometry.network import Polylines
+from olr.geometry.parts import Polylines
 from olr.regions.geopackage import WGS_84
 
 _POINT, _LINE = 1, 2

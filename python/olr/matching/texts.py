@@ -10,7 +10,7 @@ from pathlib import Path
 from typing import Any, TextIO
 
 from olr.errors import ToolError
-from olr.geometry.network import Polylines
+from olr.geometry.parts import Polylines
 from olr.matching.tables import Columns
 
 CRS = {"type": "name", "properties": {"name": "urn:ogc:def:crs:OGC:1.3:CRS84"}}

@@ -8,7 +8,7 @@ from typing import Any, Literal, NamedTuple, Protocol
 
 from olr.content import Stamp
 from olr.errors import ToolError
-from olr.geometry.network import Polylines
+from olr.geometry.parts import Polylines
 from olr.matching.columns import IN_FRONT
 from olr.matching.geopackage import make, opened, require_closed
 from olr.matching.kept_columns import as_texts, kept_columns
@@ -89,6 +89,11 @@ def require_writable(file: Path, where: Where, inputs: Iterable[Path] = ()) -> S
             )
         require_closed(file)
     return suffix
+
+
+def has_geometries(file: Path) -> bool:
+    """Whether a file to write has room for geometries."""
+    return file.suffix.lower() != ".csv"
 
 
 @contextmanager

@@ -1,9 +1,9 @@
 """Places on lines and pieces of lines, and where on the earth they lie."""
 
 import json
-from typing import NamedTuple
+from typing import NamedTuple, cast
 
-from olr.model.late import Late
+from olr.model.late import Item, Late
 
 
 class Place(NamedTuple):
@@ -35,20 +35,26 @@ class Piece(NamedTuple):
     to: int
 
 
-class Pieces(Late[Piece]):
+class _Numbers(Late[Item]):
+    """Items that are some numbers each."""
+
+    __slots__ = ()
+
+    def text(self) -> bytes:
+        """The items as the program's JSON has them."""
+        held = self._held
+        if isinstance(held, bytes):
+            return held
+        return json.dumps([list(map(int, cast(tuple[int, ...], item))) for item in held]).encode()
+
+
+class Pieces(_Numbers[Piece]):
     """Pieces of lines, one behind the other."""
 
     __slots__ = ()
 
     def _read(self, text: bytes) -> tuple[Piece, ...]:
         return tuple(map(Piece._make, json.loads(text)))
-
-    def text(self) -> bytes:
-        """The pieces as the program's JSON has them."""
-        held = self._held
-        if isinstance(held, bytes):
-            return held
-        return json.dumps([list(map(int, piece)) for piece in held]).encode()
 
     def length(self) -> int:
         """The length of all pieces together, in decimetres."""
@@ -62,10 +68,25 @@ class Spot(NamedTuple):
     lat: int
 
 
-class Spots(Late[Spot]):
-    """The points of a polyline, two at least."""
+class Spots(_Numbers[Spot]):
+    """The points of a polyline, two at least; or one point."""
 
     __slots__ = ()
 
     def _read(self, text: bytes) -> tuple[Spot, ...]:
         return tuple(map(Spot._make, json.loads(text)))
+
+
+def between(route: Pieces, earliest: Place, latest: Place) -> list[Piece]:
+    """The pieces of a route from one place on it to another one, the first of which doesn't lie behind the second. Where they are one
+    place that is a piece without a length."""
+    found: list[Piece] = []
+    for line, start, end in route:
+        if not found:
+            if line != earliest.line or not start <= earliest.at <= end:
+                continue
+            start = earliest.at
+        if line == latest.line and start <= latest.at <= end:
+            return [*found, Piece(line, start, latest.at)]
+        found.append(Piece(line, start, end))
+    return found

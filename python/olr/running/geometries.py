@@ -5,10 +5,17 @@ from contextlib import ExitStack
 from pathlib import Path
 from typing import NamedTuple
 
+from olr.client.map_client import Map
 from olr.confidence.judged import Judging
 from olr.matching.chunks import Answered, chunks_of
 from olr.matching.columns import ANSWERS, PIECES
-from olr.matching.writing import Output, Where, require_writable, writing_rows
+from olr.matching.writing import (
+    Output,
+    Where,
+    has_geometries,
+    require_writable,
+    writing_rows,
+)
 from olr.messages.message import Message
 from olr.messages.message_file import MessageFile
 from olr.model.objects import line_of
@@ -60,11 +67,13 @@ class Written(NamedTuple):
 def write_geometries(
     asked: Geometries, question: Question, map: AskedMap, parts: Sequence[Iterable[Line]]
 ) -> Written:
-    """Writes the rows of the lines of parts, one part behind the other. The lines of a store are read for some hundred rows at a
-    time. Raises `ToolError` if a file can't be written, or reading the parts or
+    """Writes the rows of the lines of parts, one part behind the other. Raises `ToolError` if a file can't be written, or reading the parts or
     the map does, and `MapRefused` if the map isn't that of the question: then all files are as they were.
     """
-    network = map.network(question.store)
+    sources = Map.of_folder(map.path)
+    network = None
+    if asked.pieces is not None and has_geometries(asked.pieces):
+        network = map.network(question.store)
     outputs = asked.outputs(question.what)
     cut_off = 0
     with ExitStack() as stack:
@@ -74,11 +83,11 @@ def write_geometries(
             stack.enter_context(writing_rows(one, asked.where, asked.inputs)) for one in outputs
         ]
         for part in watched(parts, "parts written as rows", len(parts)):
-            answered = _answered(part, network.digest, notes)
-            for chunk in chunks_of(answered, network, asked.judging):
+            answered = _answered(part, None if network is None else network.digest, notes)
+            for chunk in chunks_of(answered, sources, asked.judging):
                 cut_off += chunk.cut_off()
                 for output, sink in zip(outputs, sinks):
-                    rows = chunk.rows() if output.columns is ANSWERS else chunk.pieces()
+                    rows = chunk.rows() if output.columns is ANSWERS else chunk.pieces(network)
                     sink.add(chunk.items, rows)
     files = [(output.file, sink.rows) for output, sink in zip(outputs, sinks)]
     return Written(files, cut_off)

@@ -110,6 +110,12 @@ class RunFolder:
                 with suppress(OSError):
                     self._clear()
 
+    def has_shapes(self) -> bool:
+        """Whether there is a run whose lines have coordinates."""
+        with suppress(ToolError, OSError):
+            return "shape" in self._read()["options"]
+        return False
+
     def sync(self) -> None:
         """Hands over to the disk which parts there are. Raises `ToolError`."""
         for name in (PARTS, FACTS):
@@ -144,6 +150,10 @@ class RunFolder:
         grouped = Grouped(**there["grouped"])
         wanted = _table(question, grouped.records)
         others = [name for name in wanted if there[name] != wanted[name]]
+        if others == ["options"] and {**there["options"], "shape": True} == question.options:
+            raise ToolError(
+                f"{self.path} holds a run whose lines have no coordinates, as it began without --geometries: name another folder"
+            )
         if others:
             which = {
                 "map": f" ({shortened(there['store'])}, and not {shortened(question.store)})",

@@ -40,13 +40,12 @@ def count(
     """Asks where the references of messages are, and why some fit nothing, judges the answers, and counts them. `rows` is how many messages
     are in the sample at most. Those that fit nowhere are added to `lacking`. Raises `ToolError`."""
     places, reasons, sample = PlaceCounts(), ReasonCounts(), Sample(rows)
-    network = asked.network()
     kept: list[_Kept] = []
     answered = (
         Answered(message, answer)
         for message, answer in messages.answered("places", listing(numbers))
     )
-    for chunk in chunks_of(answered, network, judging):
+    for chunk in chunks_of(answered, None, judging):
         for message, answer, judgement in zip(chunk.items, chunk.answers, chunk.judgements):
             assert isinstance(answer, (Places, Fault))
             places.add(answer, judgement)
