@@ -7,11 +7,10 @@ from typing import Generic, NamedTuple, TypeVar
 from olr.confidence.judged import Judging, judged
 from olr.geometry.network import Network
 from olr.matching.columns import ANSWERS, PIECES
-from olr.matching.rows import AnswerRows, Extent, Located, PieceRows, Row, Rows, rows_of
+from olr.matching.rows import AnswerRows, Extent, Ground, Located, PieceRows, Row, Rows, rows_of
 from olr.matching.tables import values_of
 from olr.model.answers import AnswerOrFault, Candidates, Page, Places
 from olr.model.fault import Fault
-from olr.model.sources import HasSources
 
 Item = TypeVar("Item")
 Counted = Candidates | Fault | None
@@ -33,7 +32,7 @@ class Chunk(Generic[Item]):
     """Some answers, judged."""
 
     def __init__(
-        self, answered: Sequence[Answered[Item]], sources: HasSources | None, judging: Judging
+        self, answered: Sequence[Answered[Item]], sources: Ground | None, judging: Judging
     ) -> None:
         """See `chunks_of`."""
         self._sources = sources
@@ -64,7 +63,7 @@ class Chunk(Generic[Item]):
 
 def chunks_of(
     answered: Iterable[Answered[Item]],
-    sources: HasSources | None,
+    sources: Ground | None,
     judging: Judging = Judging(),
 ) -> Iterator[Chunk[Item]]:
     """Answers in chunks of some hundred rows. Raises `TypeError` for an answer to another question."""

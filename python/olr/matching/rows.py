@@ -16,6 +16,8 @@ from olr.model.pieces import Pieces, Spots, between
 from olr.model.road_map import Origin
 from olr.model.sources import HasSources
 
+Ground = HasSources
+"""What rows have of a map besides the answers: where its lines came from."""
 Located = Page | Places | Fault
 """An answer that says where a reference is."""
 Extent = Literal["outer", "inner"]
@@ -116,7 +118,7 @@ class AnswerRows:
     """Rows of answers."""
 
     def __init__(
-        self, rows: Sequence[Row], sources: HasSources | None = None, extent: Extent = "outer"
+        self, rows: Sequence[Row], sources: Ground | None = None, extent: Extent = "outer"
     ) -> None:
         """Rows that show the outer or the inner part of a location. Without `sources` nobody knows where lines came from."""
         self.rows, self._sources, self._extent = rows, sources, extent
@@ -204,7 +206,7 @@ class PieceRows:
     as the part `point`."""
 
     def __init__(
-        self, rows: Sequence[Row], sources: HasSources | None, network: Network | None
+        self, rows: Sequence[Row], sources: Ground | None, network: Network | None
     ) -> None:
         """Without a network they have no geometries. Raises `MapRefused` if it is of another version of the map than an answer."""
         for row in rows:
@@ -239,7 +241,7 @@ class PieceRows:
 class _Lines:
     """Lines of which many are there several times: what they have is worked out once."""
 
-    def __init__(self, lines: Integers, sources: HasSources | None) -> None:
+    def __init__(self, lines: Integers, sources: Ground | None) -> None:
         """By their ids."""
         ids, self._numbers = np.unique(lines, return_inverse=True)
         self._ids: list[int] = ids.tolist()

@@ -7,10 +7,10 @@ from typing import cast
 from olr.asking.records import Answered
 from olr.confidence.judged import Judging
 from olr.errors import ProgramEnded
-from olr.geometry.network import Network
 from olr.matching import chunks
 from olr.matching.chunks import Chunk
 from olr.matching.columns import IN_FRONT
+from olr.matching.rows import Ground
 from olr.matching.tables import values_of
 from olr.matching.texts import GeoJson, features_of
 from olr.messages.message import Message
@@ -24,25 +24,25 @@ from olr.serving.tasks import FeaturesTask, JudgedBy
 
 BEFORE = "\x1e"
 """Stands before each line."""
-MOST_ANSWER = MIB
-"""Bytes of an answer of the program of which lines are made: making them takes some ten times as much memory."""
+MOST_ANSWER = 4 * MIB
+"""Bytes of an answer of the program, with shapes, of which lines are made: making them takes some ten times as much memory."""
 TOO_LARGE = Fault("AnswerTooLarge")
 
 
-def write(task: FeaturesTask, network: Network, file: BufferedRandom) -> None:
+def write(task: FeaturesTask, ground: Ground, file: BufferedRandom) -> None:
     """Writes a collection: a feature for each matching, or for each place that is shown, the likeliest one first; or one without a
     geometry. Raises `ToolError` and `OSError`."""
-    what, digest = cast(What, task.judged_by.asked.what), network.digest
+    what = cast(What, task.judged_by.asked.what)
     counted: chunks.Counted = None
     if isinstance(task.candidates, Fault):
         counted = task.candidates
     else:
-        found = read_answer("candidates", task.candidates, digest)
+        found = read_answer("candidates", task.candidates, None)
         assert isinstance(found, Candidates)
         counted = found
-    answer = read_answer(what, task.answer, digest)
+    answer = read_answer(what, task.answer, None)
     asked = chunks.Answered(None, answer, counted)
-    rows = Chunk([asked], network, _judging_of(task.judged_by)).rows()
+    rows = Chunk([asked], ground, _judging_of(task.judged_by)).rows()
     stream = TextIOWrapper(file, encoding="utf-8", newline="")
     written = GeoJson(stream, what)
     written.add(rows.values, rows.shapes)
@@ -50,14 +50,14 @@ def write(task: FeaturesTask, network: Network, file: BufferedRandom) -> None:
     stream.detach()
 
 
-def lines_of(some: Sequence[Answered], network: Network, judged_by: JudgedBy) -> bytes:
+def lines_of(some: Sequence[Answered], ground: Ground, judged_by: JudgedBy) -> bytes:
     """The features of records, by what the program answered to them. Raises `ToolError`."""
     what = cast(What, judged_by.asked.what)
     try:
-        answered = [_answered(one, network, what) for one in some]
+        answered = [_answered(one, what) for one in some]
     except ValueError as error:
         raise ProgramEnded(f"the program wrote what is no answer: {error}") from error
-    rows = Chunk(answered, network, _judging_of(judged_by)).rows()
+    rows = Chunk(answered, ground, _judging_of(judged_by)).rows()
     front = values_of(IN_FRONT, [answered[number].item for number in rows.answers])
     features = features_of({**front, **rows.values}, rows.shapes)
     return "".join(f"{BEFORE}{feature}\n" for feature in features).encode()
@@ -68,7 +68,7 @@ def _judging_of(judged_by: JudgedBy) -> Judging:
     return chosen_by(judged_by).judging if judged_by.asked.what == "places" else Judging()
 
 
-def _answered(one: Answered, network: Network, what: What) -> chunks.Answered[Message]:
+def _answered(one: Answered, what: What) -> chunks.Answered[Message]:
     record = one.record
     message = Message(record.number, record.key(), record.text().decode())
     fault = record.fault() or one.fault
@@ -76,4 +76,4 @@ def _answered(one: Answered, network: Network, what: What) -> chunks.Answered[Me
         return chunks.Answered(message, Fault(fault))
     if len(one.answer) > MOST_ANSWER:
         return chunks.Answered(message, TOO_LARGE)
-    return chunks.Answered(message, read_answer(what, one.answer, network.digest))
+    return chunks.Answered(message, read_answer(what, one.answer, None))

@@ -7,7 +7,7 @@ from typing import IO, NamedTuple
 from olr.asking.exchange import Asked
 from olr.model.questions import TOLERANCES
 from olr.serving.accepting import MOST_REMEMBERED, weights_of
-from olr.serving.judging import listing_of
+from olr.serving.judging import listing_of, shaped
 from olr.serving.limits import PAGE_ALONE
 from olr.serving.makers import Makers
 from olr.serving.queries import Question
@@ -51,9 +51,9 @@ class Features(NamedTuple):
     async def _made(self, question: Question) -> IO[bytes]:
         """As `of`."""
         judged_by = self.makers.judging(question.asked)
-        asked = question
-        if question.asked.what == "places":
-            asked = question._replace(asked=listing_of(question.asked))
+        is_judged = question.asked.what == "places"
+        listed = listing_of(question.asked) if is_judged else question.asked
+        asked = question._replace(asked=shaped(listed))
 
         async def ask(asking: Asking) -> IO[bytes]:
             answer = await asking.answer(asked)

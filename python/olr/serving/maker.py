@@ -109,5 +109,7 @@ def _make(task: Task, ground: Ground, file: BufferedRandom) -> None:
     elif isinstance(task, SceneTask):
         file.write(scene_texts.text_of(task, ground))
     elif isinstance(task, LinesTask):
-        texts = row_texts if task.form == "rows" else feature_texts
-        file.write(texts.lines_of(task.some, ground.network, task.judged_by))
+        if task.form == "rows":
+            file.write(row_texts.lines_of(task.some, task.judged_by))
+        else:
+            file.write(feature_texts.lines_of(task.some, ground.network, task.judged_by))

@@ -7,7 +7,6 @@ from typing import Any
 from olr.asking.records import Answered
 from olr.confidence.judged import Judged, judged
 from olr.errors import ProgramEnded
-from olr.geometry.network import Network
 from olr.matching.columns import rounded, whole
 from olr.model.answers import Places
 from olr.model.fault import Fault
@@ -16,11 +15,11 @@ from olr.serving.chosen import chosen_by
 from olr.serving.tasks import JudgedBy
 
 
-def lines_of(some: Sequence[Answered], network: Network, judged_by: JudgedBy) -> bytes:
+def lines_of(some: Sequence[Answered], judged_by: JudgedBy) -> bytes:
     """The rows of records, by what the program answered to them. Raises `ToolError`."""
     chosen = chosen_by(judged_by)
     try:
-        answers = [_answer_of(one, network) for one in some]
+        answers = [_answer_of(one) for one in some]
     except ValueError as error:
         raise ProgramEnded(f"the program wrote what is no answer: {error}") from error
     judgements = judged(answers, chosen.judging)
@@ -38,12 +37,12 @@ def lines_of(some: Sequence[Answered], network: Network, judged_by: JudgedBy) ->
     )
 
 
-def _answer_of(one: Answered, network: Network) -> Places | Fault:
+def _answer_of(one: Answered) -> Places | Fault:
     """The answer to a record. Raises `ValueError` if it isn't one."""
     fault = one.record.fault() or one.fault
     if fault is not None:
         return Fault(fault)
-    answer = read_answer("places", one.answer, network.digest)
+    answer = read_answer("places", one.answer, None)
     assert isinstance(answer, Places)
     return answer
 

@@ -1,4 +1,4 @@
-"""Lines about the records of a body that need the map's geometries: those of `POST /rows`, as the page's list shows them, and those of GeoJSON.
+"""Lines about the records of a body that are made of answers: those of `POST /rows`, as the page's list shows them, and those of GeoJSON.
 
 What the program answered while the lines before were made is judged next: so nothing waits.
 """
@@ -11,7 +11,7 @@ from olr.asking.files import Version
 from olr.asking.exchange import Asked
 from olr.asking.records import Answered
 from olr.serving.bodies import Records
-from olr.serving.judging import listing_of
+from olr.serving.judging import listing_of, shaped
 from olr.serving.limits import MIB
 from olr.serving.makers import Makers
 from olr.serving.served import Served
@@ -31,7 +31,8 @@ class Rows(NamedTuple):
         """The lines about the records of a body, in pieces. Raises as `Makers.made` and `Served.batch`."""
         listed = listing_of(asked) if asked.what == "places" else asked
         judged_by = self.makers.judging(asked)
-        async with aclosing(self.served.batch(listed, body)) as answered:
+        wanted = shaped(listed) if form == "features" else listed
+        async with aclosing(self.served.batch(wanted, body)) as answered:
             map = MapVersion(self.served.files(), self.served.version() or Version(None, None))
             async for some in answered:
                 for lot in lots_of(some):
