@@ -127,8 +127,8 @@ def test_columns_are_those_of_the_json(
             wanted.append(row)
     with olr.Map.of_folder(folder, program=program.path, profile="program") as asked:
         table = olr.to_geodataframe(
-            asked.matches(texts),
-            asked.network(),
+            asked.matches(texts, shape=True),
+            asked,
             part=part,
             candidates=asked.answers("candidates", texts),
         )
@@ -154,8 +154,8 @@ def test_columns_by_hand(program: Program) -> None:
     texts = [REFERENCE, KIOSK, UNMATCHED]
     with olr.Map.of_folder(TOP / "examples", program=program.path, profile="program") as town:
         counted = town.answers("candidates", texts)
-        answers = list(town.answers("places", texts))
-        table = olr.to_geodataframe(answers, town.network(), list("abc"), candidates=counted)
+        answers = list(town.answers("places", texts, shape=True))
+        table = olr.to_geodataframe(answers, town, list("abc"), candidates=counted)
         pieces = olr.to_pieces(answers, town.network(), list("abc"))
     first, kiosk, none = rows_of(table)
     assert (first["lines"], first["part"]) == ("104;107;201;501", "outer")
@@ -176,19 +176,19 @@ def test_columns_by_hand(program: Program) -> None:
 
 def test_a_line_that_is_there_twice_is_named_twice(program: Program) -> None:
     with olr.Map.of_folder(TOP / "examples", program=program.path) as town:
-        page, network = town.match(REFERENCE), town.network()
+        page = town.match(REFERENCE, shape=True)
     (one, *_) = page.matchings
     assert one.outer is not None
     there_and_back = type(one.outer)([*one.outer[:2], one.outer[0]])
     page = replace(page, matchings=(replace(one, outer=there_and_back),))
-    assert olr.to_geodataframe([page], network)["lines"].tolist() == ["104;107;104"]
+    assert olr.to_geodataframe([page])["lines"].tolist() == ["104;107;104"]
 
 
 def test_pieces_sum_to_the_lengths(folder: Path, texts: list[str], program: Program) -> None:
     origins = origins_of(folder)
     with olr.Map.of_folder(folder, program=program.path) as asked:
-        answers = list(asked.matches(texts[:75]))
-        table = olr.to_geodataframe(answers, asked.network())
+        answers = list(asked.matches(texts[:75], shape=True))
+        table = olr.to_geodataframe(answers, asked)
         pieces = olr.to_pieces(answers, asked.network())
         network = asked.network()
     pieces["metres"] = pieces["to_m"] - pieces["from_m"]
@@ -221,12 +221,12 @@ def test_types_never_change(program: Program) -> None:
     seen = set()
     with olr.Map.of_folder(TOP / "examples", program=program.path) as town:
         network = town.network()
-        pages = list(town.matches([REFERENCE, KIOSK, "", UNMATCHED]))
+        pages = list(town.matches([REFERENCE, KIOSK, "", UNMATCHED], shape=True))
     several: list[list[olr.Page | olr.Fault]]
     several = [[], pages[:1], pages[1:2], pages[2:3], pages[3:], pages]
     for answers in several:
         for keys in (None, list(map(str, range(len(answers))))):
-            table = olr.to_geodataframe(answers, network, keys)
+            table = olr.to_geodataframe(answers, town, keys)
             pieces = olr.to_pieces(answers, network, keys)
             shown = [
                 tuple((name, str(kind)) for name, kind in one.dtypes.items() if name != "key")

@@ -1,6 +1,5 @@
 """Answers in a notebook: as dicts, in one line, and as pictures."""
 
-import gc
 import json
 import numpy as np
 import os
@@ -8,7 +7,6 @@ import pytest
 import re
 from collections.abc import Iterator
 from dataclasses import replace
-from pathlib import Path
 from typing import Any
 from xml.etree import ElementTree
 
@@ -17,7 +15,6 @@ from conftest import TOP, Program
 from olr.model.answers import AboutReference, PlaceOfReference, about
 from olr.model.pieces import Pieces
 from olr.model.questions import NUMBERS, What
-from olr.regions.making import make_store_of_folder
 
 EXAMPLES = TOP / "examples"
 SLOW, BREAKDOWN, ROADWORKS = (
@@ -52,18 +49,6 @@ def plain_town() -> Iterator[olr.Map]:
     nodes, lines = EXAMPLES / "nodes.csv", EXAMPLES / "lines.csv"
     with olr.Map(nodes, lines, profile="program") as asked:
         yield asked
-
-
-@pytest.fixture
-def own_folder(tmp_path: Path) -> Path:
-    """That map with a node more: nobody else has read its network."""
-    folder = tmp_path / "own"
-    folder.mkdir()
-    for name in ("nodes.csv", "lines.csv"):
-        (folder / name).write_text((EXAMPLES / name).read_text())
-    with (folder / "nodes.csv").open("a") as stream:
-        stream.write("999,7400000,49800000\n")
-    return folder
 
 
 # ---- answers as dicts, and in one line
@@ -139,13 +124,12 @@ def assert_drawn_as(line: list[tuple[float, float]], path: Any) -> None:
     assert pixels.min() >= 0 and pixels[:, 0].max() <= 324 and pixels[:, 1].max() <= 224
 
 
-def test_a_route_is_drawn_where_its_network_is_known(own_folder: Path) -> None:
-    """The best one on top. Without a network of that version of the map there is a table alone, which says so."""
-    with olr.Map(own_folder) as asked:
-        places, page = asked.places(ROADWORKS), asked.match(ROADWORKS)
-        kiosk = asked.match(KIOSK).matchings[0]
-        assert not lines_of(places) and "No route is drawn" in places._repr_html_()
-        network = asked.network()
+def test_a_route_is_drawn_where_its_shape_was_asked_for(plain_town: olr.Map) -> None:
+    """The best one on top; without a shape there is a table alone, which says so. The paths are those of the map's files."""
+    network = olr.Network.read(EXAMPLES)
+    places = plain_town.places(ROADWORKS, shape=True)
+    page = plain_town.match(ROADWORKS, shape=True)
+    kiosk = plain_town.match(KIOSK, shape=True).matchings[0]
     assert "No route is drawn" not in places._repr_html_()
     below, above = lines_of(places)
     first, second = (place.matching.outer for place in places.places)
@@ -155,33 +139,8 @@ def test_a_route_is_drawn_where_its_network_is_known(own_folder: Path) -> None:
     for answer in (places.places[0], places.places[0].matching, page):
         assert_drawn_as(lines_of(answer)[-1], network.path(first))
     assert_drawn_as(lines_of(kiosk)[-1], network.path(kiosk.route))
-    for digest in ("another version", None):
-        other = replace(kiosk, route=Pieces(list(kiosk.route), digest))
+    for other in (plain_town.places(ROADWORKS), replace(kiosk, shape=None)):
         assert not lines_of(other) and "No route is drawn" in other._repr_html_()
-
-
-def test_a_network_isnt_kept_for_pictures(own_folder: Path) -> None:
-    with olr.Map(own_folder) as asked:
-        page = asked.match(SLOW)
-        asked.network()
-    olr.Network.read(own_folder)
-    gc.collect()
-    assert lines_of(page), "another network of the same map came and went"
-    del asked
-    gc.collect()
-    assert not lines_of(page)
-
-
-def test_a_route_on_a_store(tmp_path: Path) -> None:
-    make_store_of_folder(EXAMPLES, tmp_path / "town.gpkg")
-    with olr.Map(tmp_path / "town.gpkg") as asked:
-        page = asked.match(SLOW)
-        part = olr.Network.read(tmp_path / "town.gpkg").having([501])
-        gc.collect()
-        assert part.digest == page.matchings[0].route.digest and not lines_of(page)
-        network = asked.network()
-        assert page.matchings[0].outer
-        assert_drawn_as(lines_of(page)[0], network.path(page.matchings[0].outer))
 
 
 def test_the_points_of_a_reference_are_drawn(town: olr.Map) -> None:

@@ -75,7 +75,7 @@ def test_things_of_other_types(town: olr.Map) -> None:
         (
             lambda: olr.to_geodataframe([page], "examples"),  # type: ignore[arg-type]
             TypeError,
-            "to_geodataframe takes the network of a map, such as town.network(), not str",
+            "to_geodataframe takes the map that was asked, not str",
         ),
         (
             lambda: olr.to_pieces([page], town),  # type: ignore[arg-type]

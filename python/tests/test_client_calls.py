@@ -137,8 +137,8 @@ def test_what_is_shown_of_maps(monkeypatch: pytest.MonkeyPatch) -> None:
         (lambda town: town.match([REFERENCE]), "a reference is a text, not list"),
         (lambda town: town.pages(b"CwVF"), "in base64, not bytes: give data.decode"),
         (lambda town: decode(b"\x0b\x05"), r"base64.b64encode\(data\).decode\(\) if they are"),
-        (lambda town: table([], town.network(), keys="m1"), "takes many keys"),
-        (lambda town: table(olr.Page(()), town.network()), "takes many answers, not one"),
+        (lambda town: table([], town, keys="m1"), "takes many keys"),
+        (lambda town: table(olr.Page(()), town), "takes many answers, not one"),
     ],
 )
 def test_one_in_place_of_many(call: Callable[[olr.Map], object], words: str) -> None:
@@ -287,12 +287,12 @@ def test_a_map_that_changes(folder: Path, program: Program) -> None:
             other.geometry(first.matchings[0].route)
         for page in (first, kiosk):
             with pytest.raises(olr.MapRefused, match=refused):
-                olr.to_geodataframe([page], other)
+                olr.to_pieces([page], other)
         (folder / "lines.csv").write_text(lines)
         network = town.network()
         assert network is town.network()
         for same in (network, olr.Network.read(EXAMPLES)):
-            assert len(olr.to_geodataframe([first, kiosk], same)) == 2
+            assert len(olr.to_pieces([first, kiosk], same)) > 2
         (folder / "bans.csv").write_text("from,to\n")
         assert town.candidates(KIOSK)
         processes_of(town)[0].fail(olr.ProgramEnded("no more"))

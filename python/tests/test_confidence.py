@@ -366,24 +366,23 @@ def test_a_table(tmp_path: Path, program: Program) -> None:
     """Without a confidence its columns are there, and empty; so are those of what wasn't asked for."""
     sure = confidence_of()
     with olr.Map(town_without_bans(tmp_path), program=program.path) as town:
-        answers: list[Any] = list(town.answers("places", [ROADWORKS], **LIST))
-        network = town.network()
-        full = olr.to_geodataframe(answers, network, confidence=sure)
-        shown = olr.to_geodataframe(answers, network, confidence=sure, most=1)
-        bare = olr.to_geodataframe(answers, network)
+        answers: list[Any] = list(town.answers("places", [ROADWORKS], shape=True, **LIST))
+        full = olr.to_geodataframe(answers, confidence=sure)
+        shown = olr.to_geodataframe(answers, confidence=sure, most=1)
+        bare = olr.to_geodataframe(answers)
         others = [
-            town.places(ROADWORKS),
-            town.places(ROADWORKS, order="likely"),
-            town.places(ROADWORKS, detail=True),
+            town.places(ROADWORKS, shape=True),
+            town.places(ROADWORKS, order="likely", shape=True),
+            town.places(ROADWORKS, detail=True, shape=True),
         ]
-        by_total, likely, in_detail = (olr.to_geodataframe([it], network) for it in others)
-        kiosk = olr.to_geodataframe([town.places(KIOSK)], network)
+        by_total, likely, in_detail = (olr.to_geodataframe([it]) for it in others)
+        kiosk = olr.to_geodataframe([town.places(KIOSK, shape=True)])
         for one in others:
             with pytest.raises(
                 ValueError,
                 match="ask for them with within=14620, most=100, order='likely', detail=True",
             ):
-                olr.to_geodataframe([one], network, confidence=sure)
+                olr.to_geodataframe([one], confidence=sure)
     sums = full["probability"].sum() + full["none_of_these"].sum()
     assert sums == pytest.approx(1, abs=0.002) and full["none_of_these"].count() == 1
     assert full["likely"].tolist() == list(range(1, len(full) + 1))

@@ -297,11 +297,12 @@ def test_python(case: Case, program: Program) -> None:
     """A table of the long list."""
     texts = list(case.texts.values())
     with olr.Map(case.folder, program=program.path, profile=FEED) as town:
-        answers = [one for one in town.answers("places", texts, **LIST) if is_place(one)]
+        places = town.answers("places", texts, shape=True, **LIST)
+        answers = [one for one in places if is_place(one)]
         counted = town.answers("candidates", texts)
         table = olr.to_geodataframe(
             answers,
-            town.network(),
+            town,
             keys=list(case.texts),
             candidates=[one if isinstance(one, olr.Candidates) else None for one in counted],
             confidence=olr.Confidence.of_file(case.confidence),
@@ -413,8 +414,8 @@ def test_tables_by_default(what: What, usual: Usual) -> None:
     long: Mapping[str, Any] = LIST if what == "places" else {}
     with olr.Map.of_folder(EXAMPLES) as town:
         table = olr.to_geodataframe(
-            [one for one in town.answers(what, texts, **long) if is_located(one)],
-            town.network(),
+            [one for one in town.answers(what, texts, shape=True, **long) if is_located(one)],
+            town,
             keys=list(usual.texts),
             confidence=olr.Confidence.default() if what == "places" else None,
             within=NUMBERS["places"]["within"].default if what == "places" else None,

@@ -156,15 +156,14 @@ def test_halfway(
 
 def test_types_of_tables(program: Program) -> None:
     """They don't depend on the answers."""
-    network = olr.Network.read(TOP / "examples")
     with olr.Map.of_folder(TOP / "examples", program=program.path) as town:
-        pages = list(town.matches([REFERENCE, KIOSK, "", "CwVGnSN2zhtnBgEB/2IjAQ=="]))
-        places = [town.places(REFERENCE)]
+        pages = list(town.matches([REFERENCE, KIOSK, "", "CwVGnSN2zhtnBgEB/2IjAQ=="], shape=True))
+        places = [town.places(REFERENCE, shape=True)]
     types = []
     several: list[Sequence[olr.Page | olr.Places | olr.Fault]]
     several = [[], [pages[2]], [pages[3]], [pages[1]], pages, places]
     for answers in several:
-        table = olr.to_geodataframe(answers, network)
+        table = olr.to_geodataframe(answers)
         types.append({name: str(kind) for name, kind in table.dtypes.items()})
         texts = table[["verdict", "cursor", "fault"]].values.ravel()
         assert all(text is None or isinstance(text, str) for text in texts)
@@ -187,14 +186,17 @@ def test_tables(program: Program, tmp_path: Path, suffix: str) -> None:
     with olr.Map(
         examples / "nodes.csv", examples / "lines.csv", program=program.path, profile="program"
     ) as town:
-        table = olr.to_geodataframe(town.matches(texts), network, keys=["a", "b", "c", "d"])
-        likely = town.places(ROADWORKS, order="likely")
-        places = olr.to_geodataframe([likely], network, part="inner")
-        kiosk = olr.to_geodataframe([town.match(KIOSK)], network)
+        table = olr.to_geodataframe(town.matches(texts, shape=True), keys=["a", "b", "c", "d"])
+        likely = town.places(ROADWORKS, order="likely", shape=True)
+        places = olr.to_geodataframe([likely], part="inner")
+        kiosk = olr.to_geodataframe([town.match(KIOSK, shape=True)])
         with pytest.raises(ValueError, match="longer"):
-            olr.to_geodataframe([town.match(KIOSK)], network, keys=[])
+            olr.to_geodataframe([town.match(KIOSK, shape=True)], keys=[])
+        for answer in (town.match(KIOSK), town.places(KIOSK), town.match(REFERENCE)):
+            with pytest.raises(ValueError, match="no geometries: ask for them with shape=True"):
+                olr.to_geodataframe([answer])
         with pytest.raises(TypeError, match="Why has no matchings"):
-            olr.to_geodataframe([town.why(KIOSK)], network)  # type: ignore[list-item]
+            olr.to_geodataframe([town.why(KIOSK)])  # type: ignore[list-item]
     assert table["key"].tolist() == ["a", "b", "b", "c", "d"]
     assert table["verdict"].tolist() == ["match", "match", "match", "fault", "none"]
     assert table["total"].dropna().tolist() == [8, 64, 71]
@@ -204,7 +206,7 @@ def test_tables(program: Program, tmp_path: Path, suffix: str) -> None:
     assert places[["key", "gap", "margin"]].values.tolist() == [[0, 7, 7], [0, 0, 7]]
     point = kiosk.geometry[0]
     assert point.geom_type == "Point"
-    assert point.distance(network.point((701, (2697 + 2716) // 2))) < 1e-9
+    assert point.distance(network.point((701, (2697 + 2716) // 2))) < 1e-6
     file = tmp_path / f"table{suffix}"
     table.to_file(file)
     assert geopandas.read_file(file)["total"].dropna().astype(int).tolist() == [8, 64, 71]

@@ -139,8 +139,12 @@ def test_the_likeliest_place_and_the_first_matching() -> None:
     town = olr.Map(EXAMPLES / "nodes.csv", EXAMPLES / "lines.csv", profile="feed")
     found = olr.locate(pandas.Series(texts), map=town)
     table = olr.to_geodataframe(
-        (one for one in town.answers("places", texts, **LIST) if isinstance(one, olr.Places)),
-        town.network(),
+        (
+            one
+            for one in town.answers("places", texts, shape=True, **LIST)
+            if isinstance(one, olr.Places)
+        ),
+        town,
         candidates=town.answers("candidates", texts),
         confidence=olr.Confidence.default(),
         within=NUMBERS["places"]["within"].default,
@@ -164,12 +168,13 @@ def test_the_part_of_the_geometry(town: olr.Map) -> None:
     inner = olr.locate(table_of(SLOW), "ref", town, part="inner").geometry[0]
     best = town.match(SLOW).matchings[0]
     assert best.outer and best.inner
-    assert outer.equals(town.network().geometry(best.outer))
-    assert inner.equals(town.network().geometry(best.inner))
+    # To a microdegree: coordinates of answers are whole ones.
+    for drawn, part in ((outer, best.outer), (inner, best.inner)):
+        assert drawn.equals_exact(town.network().geometry(part), 1.001e-6)
     with pytest.raises(ValueError, match="outer or inner, not 'middle'"):
         olr.locate(table_of(SLOW), "ref", None, part="middle")  # type: ignore[arg-type]
     with pytest.raises(ValueError, match="outer or inner, not 'middle'"):
-        olr.to_geodataframe([], town.network(), part="middle")  # type: ignore[arg-type]
+        olr.to_geodataframe([], town, part="middle")  # type: ignore[arg-type]
 
 
 def test_a_series_becomes_a_column() -> None:

@@ -3,25 +3,28 @@
 import numpy as np
 import pytest
 from pathlib import Path
-from typing import Any
 
 import olr
 from olr.comparing.places import Limits, Spot, Stretch, difference, likeliest_places
 from olr.confidence.judged import judged
 from olr.errors import MapRefused, ToolError
-from olr.geometry.network import between, middle
-from olr.model.answers import Candidate, Leg, Matching, PlaceOfReference, Places
-from olr.model.objects import read_answer
-from olr.model.pieces import Piece, Pieces, Place
+from olr.geometry.network import middle
+from olr.model.answers import (
+    Candidate,
+    Leg,
+    Matching,
+    PlaceOfReference,
+    Places,
+    Shape,
+    SpotsOnRoute,
+)
+from olr.model.pieces import Piece, Pieces, Place, Spots, between
+from olr.model.pieces import Spot as MicroSpot
 from stores import folder_of
 
 # 0.002 degrees east along the equator, with vertices at a quarter and at half of it: shares that have exact numbers.
 NODES = "id,lon,lat\n1,0,0\n2,2000,0\n"
 LINES = "id,from,to,class,form,length,shape\n7,1,2,3,3,2000,500 0;1000 0\n8,2,1,3,3,2000,\n"
-MATCHING = (
-    '{"rank":%d,"total":0,"legs":[],"points":[],"route":[[7,0,2000]],"outer":[[7,0,2000]],"inner":[[7,0,2000]],'
-    '"cursor":"0:0"}'
-)
 
 
 @pytest.fixture
@@ -56,21 +59,6 @@ def test_pieces_one_behind_the_other(network: olr.Network) -> None:
     """Where one ends and the next one begins there is one point."""
     points = network.path([(7, 0, 500), (7, 500, 2000), (8, 0, 1000)])
     assert (points[:, 0] * 1e6).round(6).tolist() == [0, 500, 1000, 2000, 1000]
-
-
-@pytest.mark.parametrize("digest", ["own", "other"])
-@pytest.mark.parametrize("matchings", [1, 2])
-def test_rows_of_another_version(matchings: int, digest: str, network: olr.Network) -> None:
-    """They are refused, also where a page has one matching."""
-    found = ",".join(MATCHING % rank for rank in range(1, matchings + 1))
-    assert network.digest is not None
-    text = f'{{"matchings":[{found}],"next":null}}'.encode()
-    page: Any = read_answer("match", text, network.digest if digest == "own" else "other")
-    if digest == "own":
-        assert olr.to_geodataframe([page], network)["lines"].tolist() == ["7"] * matchings
-    else:
-        with pytest.raises(MapRefused, match="is another version than the answer is of"):
-            olr.to_geodataframe([page], network)
 
 
 def test_pieces_of_another_version(network: olr.Network) -> None:
@@ -136,8 +124,14 @@ def test_the_direction_of_travel_at_a_point(at: int, lead: tuple[int, int], tmp_
     folder = folder_of(tmp_path / "bent", "id,lon,lat\n1,0,0\n2,1000,1000\n", bent, "from,to\n")
     network = olr.Network.read(folder)
     route, point = Pieces([Piece(7, 0, 2000)], network.digest), Candidate(0, 7, 0)
-    place = Place(7, at)
-    one = Matching("0:1", (Leg(2000, 0),), (point, point), route, 0, earliest=place, latest=place)
+    place, here = Place(7, at), MicroSpot(0, 0)
+    one = Matching(
+        *("0:1", (Leg(2000, 0),), (point, point), route, 0),
+        earliest=place,
+        latest=place,
+        shape=Shape(Spots([here, here])),
+        spot=SpotsOnRoute(here, here, here),
+    )
     places = [Places(1, (PlaceOfReference(0, one, 1),), "unique")]
     _, (shape,) = likeliest_places(places, judged(places), network)
     assert isinstance(shape, Spot)

@@ -158,18 +158,18 @@ def test_tables_say_how_was_asked() -> None:
             asked_with: dict[str, Any] = {"asked_with": town.asked_with}
             assert olr.locate(table, "ref", town).attrs == {"source": "mine", **asked_with}
             assert olr.locate(pandas.Series([], dtype=object), map=town).attrs == asked_with
-            pages, network = list(town.matches([REFERENCE, "none"])), town.network()
-            assert olr.to_geodataframe(pages, network).attrs == asked_with
-            assert olr.to_pieces(pages, network).attrs == asked_with
+            pages = list(town.matches([REFERENCE, "none"], shape=True))
+            assert olr.to_geodataframe(pages, town).attrs == asked_with
+            assert olr.to_pieces(pages, town.network()).attrs == asked_with
             (page,) = town.pages(REFERENCE)
             after = town.match(REFERENCE, after=page.matchings[0].cursor)
             for one in (page, after, town.places(REFERENCE), town.why(REFERENCE)):
                 assert one.asked_with == town.asked_with
     assert olr.locate(table, "ref", EXAMPLES).attrs["asked_with"] == {"profile": DEFAULT_PROFILE}
     with olr.Map(EXAMPLES) as town, olr.Map(EXAMPLES, radius=60) as other:
-        both = [town.match(REFERENCE), other.match(REFERENCE)]
-        assert olr.to_geodataframe(both, town.network()).attrs == {}
-        assert olr.to_geodataframe([olr.Fault("Empty")], town.network()).attrs == {}
+        both = [one.match(REFERENCE, shape=True) for one in (town, other)]
+        assert olr.to_geodataframe(both).attrs == {}
+        assert olr.to_geodataframe([olr.Fault("Empty")]).attrs == {}
 
 
 def test_stores_take_a_profile(tmp_path: Path) -> None:

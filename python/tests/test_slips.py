@@ -307,10 +307,8 @@ IN_PYTHON = [
     Slip("town.matches(TABLE)", "not a table", "give one of its columns"),
     Slip("town.answers('place', [REFERENCE])", "'place' is no question", "ask candidates, match"),
     Slip("town.answers('places', [REFERENCE], page=3)", "has no page", "it has apart, within"),
-    Slip("olr.to_geodataframe(town.match(REFERENCE), town.network())", "not one", "give a list"),
-    Slip(
-        "olr.to_geodataframe([], 'town')", "not str", "the network of a map, such as town.network()"
-    ),
+    Slip("olr.to_geodataframe(town.match(REFERENCE), town)", "not one", "give a list"),
+    Slip("olr.to_geodataframe([], 'town')", "not str", "takes the map that was asked"),
     Slip("CLOSED.match(REFERENCE)", "this map is closed", "make another one"),
 ]
 """Calls, each of which raises an error whose text is one line."""

@@ -49,12 +49,10 @@ def test_keys_that_look_like_an_answer(program: Program, tmp_path: Path) -> None
 
 def test_a_table_of_them(program: Program, tmp_path: Path) -> None:
     file = tmp_path / "lines.jsonl"
-    file.write_bytes(lines_of_batch(program, EXAMPLES, "places", EXAMPLES / "messages.tsv"))
+    words = ("--map", EXAMPLES, "--shape", "--input", EXAMPLES / "messages.tsv")
+    file.write_text(program.run("batch", "places", *words).stdout)
     read: list[Any] = list(olr.answers(str(file)))
-    network = olr.Network.read(EXAMPLES)
-    found = olr.to_geodataframe(
-        [one.answer for one in read], network, keys=[one.key for one in read]
-    )
+    found = olr.to_geodataframe([one.answer for one in read], keys=[one.key for one in read])
     assert found["key"].tolist() == ["m1", "m2", "m3", "m4", "m5"]
     assert found.geometry.notna().tolist() == [True, True, True, False, False]
 

@@ -12,7 +12,6 @@ from olr.asking.program import PathLike
 from olr.content import digest_of
 from olr.errors import MapRefused, ToolError
 from olr.extras import needed_by
-from olr.model.display import note_network
 from olr.model.map_folder import LINES, NODES, store_of
 from olr.model.pieces import Pieces, Place
 from olr.model.sources import Sources
@@ -97,7 +96,6 @@ class Network:
         self._by_id: Integers = np.argsort(self.line_id, kind="stable")
         self._ids: Integers = self.line_id[self._by_id]
         self._sources: Sources | None = None
-        note_network(self)
 
     @classmethod
     def read(cls, folder: str | Path) -> "Network":

@@ -11,7 +11,6 @@ from olr.arrays import Floats, Integers
 from olr.errors import ToolError, map_changed
 from olr.geometry.network import Network
 from olr.geometry.parts import Polylines
-from olr.model.display import note_network
 from olr.model.map_folder import store_of
 from olr.model.road_map import MICRODEGREE
 from olr.model.sources import Sources
@@ -49,7 +48,6 @@ class StoreNetwork(Network):
         self.folder, self.digest = self._store.file, self._store.digest
         self._asking = threading.Lock()
         self._last: PartOfNetwork | None = None
-        note_network(self)
 
     def __repr__(self) -> str:
         sizes = self._store.sizes

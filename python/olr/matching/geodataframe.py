@@ -72,6 +72,9 @@ def to_geodataframe(
     a `confidence` needs, and `TypeError` for one answer or one key in place of many; and `ToolError` if the sources can't be read.
     """
     require_extent(part)
+    if sources is not None and not hasattr(sources, "sources"):
+        name = type(sources).__name__
+        raise TypeError(f"to_geodataframe takes the map that was asked, not {name}")
     asked: list[Mapping[str, Any]] = []
     answered = map(_with_shape, _answered("to_geodataframe", asked, answers, keys, candidates))
     chunks = chunks_of(answered, sources, Judging(confidence, _shown(within, most)))

@@ -253,8 +253,9 @@ class Matching(Displayed):
         """Where the location lies: the outer part, and of a point along a line the route."""
         return self.outer or self.route
 
-    def _routes(self) -> Sequence[Pieces]:
-        return [self._covered()]
+    def _routes(self) -> Sequence[Spots | None]:
+        shape = self.shape
+        return [None if shape is None else shape.outer or shape.route]
 
 
 @dataclass(frozen=True, repr=False)
@@ -295,7 +296,7 @@ class Page(AboutReference):
     def _rows(self) -> Sequence[Mapping[str, object]]:
         return [{"matching": number, **one._row()} for number, one in enumerate(self.matchings, 1)]
 
-    def _routes(self) -> Sequence[Pieces]:
+    def _routes(self) -> Sequence[Spots | None]:
         return [route for one in self.matchings for route in one._routes()]
 
 
@@ -317,7 +318,7 @@ class PlaceOfReference(Displayed):
     def _rows(self) -> Sequence[Mapping[str, object]]:
         return [{**self.matching._row(), "gap": self.gap, "matchings": self.members}]
 
-    def _routes(self) -> Sequence[Pieces]:
+    def _routes(self) -> Sequence[Spots | None]:
         return self.matching._routes()
 
 
@@ -362,7 +363,7 @@ class Places(AboutReference):
         found = enumerate(self.places, 1)
         return [{"place": number, **row} for number, one in found for row in one._rows()]
 
-    def _routes(self) -> Sequence[Pieces]:
+    def _routes(self) -> Sequence[Spots | None]:
         return [route for one in self.places for route in one._routes()]
 
 

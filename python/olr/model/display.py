@@ -1,22 +1,18 @@
 """How an answer is shown: as plain dicts, in one line, and in a notebook, as a picture and a table.
 
-An answer has no geometry. A route is drawn where this process has a network of the same version of the map, and the points of a reference
-where the answer knows its reference. No map is read anew for a picture; the network of a store reads a few lines of it.
+A route is drawn where the answer was asked for with its shape, and the points of a reference where the answer knows its reference.
 """
 
 import math
 from abc import abstractmethod
-from collections.abc import Iterable, Mapping, Sequence
-from contextlib import suppress
+from collections.abc import Mapping, Sequence
 from dataclasses import field, fields, is_dataclass
 from html import escape
 from itertools import groupby
-from typing import Any, Protocol
-from weakref import WeakSet
+from typing import Any
 
-from olr.errors import ToolError
 from olr.model.late import Late
-from olr.model.pieces import Pieces
+from olr.model.pieces import Spots
 
 MOST_ROWS = 10
 """So many rows a table has, and so many routes a picture."""
@@ -28,24 +24,6 @@ FIRST, OTHER, SAID = "#0072b2", "#a3a3a3", "#1a1a1a"
 
 Point = Sequence[float]
 """A longitude and a latitude, in degrees."""
-
-
-class Drawable(Protocol):
-    """A map that knows where pieces are."""
-
-    digest: str | None
-    """Of its version, as pieces have it."""
-
-    def path(self, pieces: Pieces) -> Iterable[Point]:
-        """The points of pieces. Raises `ToolError`."""
-
-
-_NETWORKS: "WeakSet[Drawable]" = WeakSet()
-
-
-def note_network(network: Drawable) -> None:
-    """Lets answers of the same version of the map be drawn, for as long as the network is there."""
-    _NETWORKS.add(network)
 
 
 class Displayed:
@@ -68,12 +46,16 @@ class Displayed:
     def _repr_html_(self) -> str:
         """What a notebook shows."""
         routes, spots = self._routes()[:MOST_ROWS], self._spots()
-        drawn = _drawn(routes)
+        drawn = [
+            [(spot.lon / 1e6, spot.lat / 1e6) for spot in route]
+            for route in routes
+            if route is not None
+        ]
         rows = self._rows()
         notes = [
             "Blue: the first row. Grey: the others." if drawn else "",
             "Black: the points of the reference, joined by straight lines." if spots else "",
-            "" if drawn or not routes else "No route is drawn: read the network() of the map.",
+            "" if drawn or not routes else "No route is drawn: ask with shape=True.",
             f"{len(rows) - MOST_ROWS:,} more aren't shown." if len(rows) > MOST_ROWS else "",
         ]
         note = " ".join(filter(None, notes))
@@ -93,8 +75,8 @@ class Displayed:
     def _rows(self) -> Sequence[Mapping[str, object]]:
         """The rows of its table, each with all columns."""
 
-    def _routes(self) -> Sequence[Pieces]:
-        """What is drawn of it on a map: the first one is the best one."""
+    def _routes(self) -> Sequence[Spots | None]:
+        """What is drawn of it on a map: the first one is the best one. None where nobody asked for it."""
         return ()
 
     def _spots(self) -> Sequence[Point]:
@@ -124,16 +106,6 @@ def plain(value: Any) -> Any:
 def counted(number: int, word: str) -> str:
     """So many of something: `1 place`, `2 places`."""
     return f"{number:,} {word}" if number == 1 else f"{number:,} {word}s"
-
-
-def _drawn(routes: Sequence[Pieces]) -> list[list[Point]]:
-    """The points of routes; none where no network of their map is there."""
-    digest = routes[0].digest if routes else None
-    for network in [one for one in _NETWORKS if one.digest == digest is not None]:
-        # One may have a part of the map alone.
-        with suppress(ToolError):
-            return [[tuple(point) for point in network.path(route)] for route in routes]
-    return []
 
 
 def _svg(routes: Sequence[Sequence[Point]], spots: Sequence[Point]) -> str:

@@ -84,9 +84,6 @@ class Legs(AboutReference):
             for number, leg in enumerate(self.legs, 1)
         ]
 
-    def _routes(self) -> Sequence[Pieces]:
-        return [leg.pieces for leg in self.legs]
-
 
 @dataclass(frozen=True)
 class LineOfMap:
