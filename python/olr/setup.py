@@ -10,7 +10,6 @@ import shlex
 import shutil
 import subprocess
 import sys
-from importlib import metadata
 from itertools import chain
 from pathlib import Path
 
@@ -137,6 +136,9 @@ def _with_pip() -> list[str]:
     """The command by which pip installs what this interpreter lacks: the extras, of the package that is installed, or of the one
     that lies in a repository."""
     lacking = (name for name, brought in EXTRAS.items() if _lacks(*ALWAYS, *brought))
+    # It takes a tenth of the time in which a command starts.
+    from importlib import metadata
+
     try:
         metadata.version("olr")
         package = "olr"

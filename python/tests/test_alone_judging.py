@@ -171,10 +171,10 @@ def file(request: pytest.FixtureRequest, tmp_path_factory: pytest.TempPathFactor
 ROWS = "lines.map((line) => rowText(rowOf(line, judgingBy(confidence, numbers))))"
 
 
-def test_rows(asked: Asked, file: Path, network: Network, scripts: Scripts) -> None:
+def test_rows(asked: Asked, file: Path, scripts: Scripts) -> None:
     """They are the server's, to the letter."""
     confidence = Confidence.of_file(file)
-    wanted = lines_of(asked.some, network, JudgedBy(asked.kind, confidence)).decode().splitlines()
+    wanted = lines_of(asked.some, JudgedBy(asked.kind, confidence)).decode().splitlines()
     given = {"lines": asked.lines, "numbers": asked.numbers()}
     found = scripts.value(ROWS, confidence=json.loads(file.read_text()), **given)
     assert found == wanted
@@ -198,7 +198,7 @@ def test_rows_of_the_examples(
     )
     asked = asked_with(program, place, messages.split(b"\n")[:-1], tolerances_of(FEED) | DEFAULTS)
     judged_by = JudgedBy(asked.kind, Confidence.default())
-    wanted = lines_of(asked.some, Network.read(place), judged_by).decode().splitlines()
+    wanted = lines_of(asked.some, judged_by).decode().splitlines()
     given = {"lines": asked.lines, "numbers": asked.numbers()}
     scripts.read_map(place)
     try:

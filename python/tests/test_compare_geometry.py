@@ -14,8 +14,18 @@ from olr.confidence.judged import judged
 from olr.geometry.agreement import agreement
 from olr.geometry.plane import DEGREE, Plane, Segments
 from olr.geometry.stretches import hausdorff, longest_lacking, share_within, within
-from olr.model.answers import Candidate, Leg, Matching, PlaceOfReference, Places
+from olr.model.answers import (
+    Candidate,
+    Leg,
+    Matching,
+    PlaceOfReference,
+    Places,
+    Shape,
+    SpotsOnRoute,
+)
 from olr.model.pieces import Piece, Pieces, Place
+from olr.model.pieces import Spot as MicroSpot
+from olr.model.pieces import Spots as MicroSpots
 
 LIMITS = Limits(across=10, apart=75)
 Spots = list[tuple[float, float]]
@@ -321,13 +331,20 @@ def test_a_point_at_either_end_of_its_line() -> None:
     for at, decimetre in ((0, (701, 0, 1)), (length, (701, length - 1, length))):
         points, place = (Candidate(at, 701, 0),) * 2, Place(701, at)
         route = Pieces([Piece(701, 0, length)])
-        matching = Matching("", (Leg(0, 0),), points, route, 0, None, None, place, place)
+        (spot,) = (network.points_at(np.array([place])) * 1e6).round().astype(int).tolist()
+        here = MicroSpot(*spot)
+        shape, spots = Shape(MicroSpots([here, here])), SpotsOnRoute(here, here, here)
+        matching = Matching(
+            *("", (Leg(0, 0),), points, route, 0, None, None, place, place),
+            shape=shape,
+            spot=spots,
+        )
         answer = Places(1, (PlaceOfReference(0, matching, 1),), "unique")
         _, (found,) = likeliest_places([answer], judged([answer]), network)
         assert isinstance(found, Spot)
         assert found.behind.tolist() == network.path([decimetre]).tolist()
         assert found.route.tolist() == network.path(route).tolist()
-        assert found.point.tolist() == network.points_at(np.array([place]))[0].tolist()
+        assert (found.point * 1e6).round().tolist() == [*here]
 
 
 def test_a_degree_of_longitude_is_shorter_in_the_north() -> None:

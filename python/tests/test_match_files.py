@@ -91,7 +91,8 @@ def test_geojson_is_read_by_others(tmp_path: Path) -> None:
             assert len(layer) == count and layer.crs.to_epsg() == 4326
     assert features[0]["properties"]["key"] == 'a"\\ö'
     first = olr.Network.read(EXAMPLES).point((104, 879))
-    assert features[0]["geometry"]["coordinates"][0] == [round(first.x, 7), round(first.y, 7)]
+    drawn = features[0]["geometry"]["coordinates"][0]
+    assert drawn == [7.416942, 49.87128] == pytest.approx([first.x, first.y], abs=1e-6)
 
 
 @pytest.mark.parametrize("kind", ["gpkg", "csv"])

@@ -192,7 +192,8 @@ def test_tables(program: Program, tmp_path: Path, suffix: str) -> None:
         kiosk = olr.to_geodataframe([town.match(KIOSK, shape=True)])
         with pytest.raises(ValueError, match="longer"):
             olr.to_geodataframe([town.match(KIOSK, shape=True)], keys=[])
-        for answer in (town.match(KIOSK), town.places(KIOSK), town.match(REFERENCE)):
+        bare: list[olr.Page | olr.Places] = [town.match(KIOSK), town.places(KIOSK)]
+        for answer in bare:
             with pytest.raises(ValueError, match="no geometries: ask for them with shape=True"):
                 olr.to_geodataframe([answer])
         with pytest.raises(TypeError, match="Why has no matchings"):

@@ -94,9 +94,12 @@ def test_a_full_disk(
 def test_a_disk_with_room_for_an_empty_layer_alone(
     tmp_path: Path, capsys: pytest.CaptureFixture[str]
 ) -> None:
-    """GDAL's empty file fits, and what SQLite makes of it doesn't."""
+    """The empty file fits, and what SQLite makes of it doesn't."""
     out = tmp_path / "out.gpkg"
-    with full_disk(120_000):
+    make(tmp_path / "empty.gpkg", "match", {**IN_FRONT, **ANSWERS})
+    size = (tmp_path / "empty.gpkg").stat().st_size
+    (tmp_path / "empty.gpkg").unlink()
+    with full_disk(size + 1):
         assert olr_tools(*MATCH, "--out", out) == 1
     assert capsys.readouterr().err.splitlines() == [
         f"olr-tools: {out} can't be written: Input/output error"

@@ -29,8 +29,8 @@ class Confidence:
     >>> import olr
     >>> text, sure = "CwVF/yN2yRpnBAFUAAgbpwYBAf9kK0Fa", olr.Confidence.default()
     >>> with olr.Map("examples") as town:
-    ...     answers = [town.places(text, within=14620, most=100, order="likely", detail=True)]
-    ...     table = olr.to_geodataframe(answers, town.network(), confidence=sure, most=1)
+    ...     answers = [town.places(text, within=14620, most=100, order="likely", detail=True, shape=True)]
+    ...     table = olr.to_geodataframe(answers, town, confidence=sure, most=1)
     ...
     >>> bool(table["probability"][0] > 0.9)
     True

@@ -1,12 +1,9 @@
 """Rows into a layer of a GeoPackage, many at a time.
 
-GDAL makes the empty file, and SQLite adds the rows: row by row through GDAL they would take ten times the time. The triggers that keep
-GDAL's index of places and its count of rows need functions that SQLite lacks; so they are left out meanwhile, and both are written
-here.
+The file is as GDAL makes it, which would take ten times the time to add the rows. The triggers that keep GDAL's index of places and its count
+of rows need functions that SQLite lacks; so they are left out meanwhile, and both are written here.
 """
 
-import fiona
-import io
 import numpy as np
 import sqlite3
 from collections.abc import Iterator, Mapping, Sequence
@@ -20,10 +17,11 @@ from olr.errors import ToolError
 from olr.geometry.parts import Polylines
 from olr.matching.shapes import blobs, boxes
 from olr.matching.tables import Columns, Kind
-from olr.regions.geopackage import insert, os_error
+from olr.regions.geopackage import insert, make_common_tables, os_error, quoted
 from olr.regions.index import fill_index, outwards
 
-CRS = "EPSG:4326"
+LAYER = Path(__file__).with_name("layer.sql")
+"""The tables of a layer, of which the name and the columns are left open."""
 TYPES: Mapping[Kind, str] = {
     "int64": "INTEGER",
     "float": "REAL",
@@ -42,27 +40,14 @@ OPEN = ("-wal", "-journal")
 
 def make(file: Path, layer: str, columns: Columns[Any]) -> None:
     """Makes a GeoPackage with a layer without rows. A row may have a line, a point or nothing. Raises `OSError`."""
-    file.write_bytes(_empty(layer, columns))
-    try:
-        with closing(sqlite3.connect(file)) as connection:
-            connection.execute(f"PRAGMA page_size = {PAGE_BYTES}")
-            connection.execute("VACUUM")
-    except sqlite3.Error as error:
-        raise os_error(error) from error
-
-
-def _empty(layer: str, columns: Columns[Any]) -> bytes:
-    """What GDAL makes: in memory, because it doesn't tell of each write to a disk that failed."""
-    schema = {
-        "geometry": "Unknown",
-        "properties": {
-            name: "str" if one.kind == "json" else one.kind for name, one in columns.items()
-        },
-    }
-    with io.BytesIO() as content:
-        with fiona.open(content, "w", driver="GPKG", crs=CRS, schema=schema, layer=layer):
-            pass
-        return content.getvalue()
+    names = ", ".join(f"{quoted(name)} {TYPES[one.kind]}" for name, one in columns.items())
+    tables = LAYER.read_text(encoding="utf-8").format(layer=layer, columns=names)
+    # In memory, since SQLite doesn't tell why it couldn't write.
+    with closing(sqlite3.connect(":memory:")) as connection:
+        connection.execute(f"PRAGMA page_size = {PAGE_BYTES}")
+        make_common_tables(connection)
+        connection.executescript(tables)
+        file.write_bytes(connection.serialize())
 
 
 def require_closed(file: Path) -> None:

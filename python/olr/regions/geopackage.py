@@ -1,4 +1,4 @@
-"""The tables and blobs of a GeoPackage 1.3 (OGC 12-128r17), as far as a store needs them."""
+"""The tables and blobs of a GeoPackage 1.3 (OGC 12-128r17), as far as a store and files of rows need them."""
 
 import errno
 import numpy as np
@@ -24,14 +24,20 @@ ROWS = 250
 """So many rows are added by a statement."""
 MOST_VALUES = 32_766
 """No more values may be in a statement of SQLite, unless it is built otherwise."""
-SCHEMA = Path(__file__).with_name("schema.sql")
+COMMON, SCHEMA = (Path(__file__).with_name(name) for name in ("geopackage.sql", "schema.sql"))
 
 
 def make_tables(connection: sqlite3.Connection) -> None:
     """Makes the tables of a store in an empty file. Raises `sqlite3.Error`."""
+    make_common_tables(connection)
+    connection.executescript(SCHEMA.read_text(encoding="utf-8"))
+
+
+def make_common_tables(connection: sqlite3.Connection) -> None:
+    """Makes the tables that every GeoPackage has in an empty file. Raises `sqlite3.Error`."""
     connection.execute(f"PRAGMA application_id = {APPLICATION}")
     connection.execute(f"PRAGMA user_version = {EDITION}")
-    connection.executescript(SCHEMA.read_text(encoding="utf-8"))
+    connection.executescript(COMMON.read_text(encoding="utf-8"))
 
 
 def insert(

@@ -151,10 +151,9 @@ class RunFolder:
         wanted = _table(question, grouped.records)
         others = [name for name in wanted if there[name] != wanted[name]]
         if others == ["options"] and {**there["options"], "shape": True} == question.options:
-            raise ToolError(
-                f"{self.path} holds a run whose lines have no coordinates, as it began without --geometries: name another folder"
-            )
-        if others:
+            # Its lines have no coordinates, and are made again.
+            self._write(question, grouped)
+        elif others:
             which = {
                 "map": f" ({shortened(there['store'])}, and not {shortened(question.store)})",
                 "program": f" ({Build(**there['program'])}, and not {question.program})",
@@ -185,13 +184,17 @@ class RunFolder:
             for name in FOLDERS:
                 self._make_empty(name)
             grouped = self._write_groups(question, records)
-            table = _table(question, grouped.records) | {"grouped": grouped._asdict()}
-            write_whole(self.path / RUN, (json.dumps(table, indent=4) + "\n").encode())
+            self._write(question, grouped)
         except BaseException:
             for name in FOLDERS:
                 shutil.rmtree(self.path / name, ignore_errors=True)
             raise
         return grouped
+
+    def _write(self, question: Question, grouped: Grouped) -> None:
+        """Writes what was asked. Raises `OSError`."""
+        table = _table(question, grouped.records) | {"grouped": grouped._asdict()}
+        write_whole(self.path / RUN, (json.dumps(table, indent=4) + "\n").encode(), True)
 
     def _require_groups(
         self, grouped: Grouped, question: Question, records: Iterable[Record]
