@@ -1,7 +1,6 @@
 """The tables of answers. Each column stands below its name with the sentence of docs/COLUMNS.md about it. It needs no numpy."""
 
 from collections.abc import Callable, Mapping, Sequence
-from operator import attrgetter
 from typing import TYPE_CHECKING, Any
 
 from olr.matching.tables import Column, Columns, columns_of
@@ -18,7 +17,6 @@ if TYPE_CHECKING:
 
 Reasons = Why | Fault
 Values = list[Any]
-penalty_of = attrgetter("penalty")
 DIGITS = 3
 """Of probabilities behind the point."""
 
@@ -53,6 +51,11 @@ def rounded(number: float | None, digits: int = DIGITS) -> float | None:
     return None if number is None else round(number, digits)
 
 
+def penalty_of_legs(matching: Matching) -> int:
+    """The penalty points of the paths of a matching. The others of its total are those of its points, which needn't be read."""
+    return sum(leg.penalty for leg in matching.legs)
+
+
 def whole(fact: bool | None) -> int | None:
     """1 for what is so, and 0 for what isn't."""
     return None if fact is None else int(fact)
@@ -79,9 +82,9 @@ class Answers:
     """once a message: the upper end"""
     total = Column("int64", of_matchings(lambda it: it.total))
     """penalty points in all: `point_penalty` and `leg_penalty` together"""
-    point_penalty = Column("int64", of_matchings(lambda it: sum(map(penalty_of, it.points))))
+    point_penalty = Column("int64", of_matchings(lambda it: it.total - penalty_of_legs(it)))
     """penalty points of the points of the reference: for distance, direction, class and form"""
-    leg_penalty = Column("int64", of_matchings(lambda it: sum(map(penalty_of, it.legs))))
+    leg_penalty = Column("int64", of_matchings(penalty_of_legs))
     """penalty points of the paths between them: for their lengths"""
     gap = Column("int64", of_rows(lambda it: it.gap))
     """by how many points its total is worse than the best one"""

@@ -210,7 +210,7 @@ class Matching(Displayed):
 
     cursor: str
     legs: tuple[Leg, ...]
-    points: tuple[Candidate, ...]
+    points: Sequence[Candidate]
     route: Pieces
     total: int
     outer: Pieces | None = None

@@ -100,7 +100,7 @@ def _shape(found: Json, lists: Lists) -> Shape:
 
 def _matching(found: Json, lists: Lists) -> Matching:
     found["legs"] = _all_made(Leg, found["legs"])
-    found["points"] = _points(found["points"])
+    found["points"] = Points(lists.texts[found["points"]], lists.digest)
     found["route"] = Pieces(lists.texts[found["route"]], lists.digest)
     if "outer" in found:
         found["outer"] = _pieces(found["outer"], lists)
@@ -114,6 +114,15 @@ def _matching(found: Json, lists: Lists) -> Matching:
         spots = {name: Spot._make(spot) for name, spot in found["spot"].items()}
         found["spot"] = SpotsOnRoute(**spots)
     return _made(Matching, found)
+
+
+class Points(Late[Candidate]):
+    """The points of a matching."""
+
+    __slots__ = ()
+
+    def _read(self, text: bytes) -> tuple[Candidate, ...]:
+        return _points(json.loads(text))
 
 
 class Matchings(Late[Matching]):
@@ -217,6 +226,13 @@ _BEGINNINGS: Mapping[bytes, What] = {
 _ANSWER, _BEHIND = b'{"answer":', b',"fault":'
 
 
+_MATCHINGS, _NEXT = b'{"matchings":[', b'],"next":'
+
+
+_CUTS = ((b"", b"[[", b"]]", b""), (b'"points":', b"[", b"]", b',"route":'))
+"""How lists begin and end, with what stands before and behind them: those of pieces and of spots, and the points of matchings."""
+
+
 class RawLine(NamedTuple):
     """A line of `olr answer`, or `olr batch`, taken apart."""
 
@@ -284,21 +300,25 @@ def _as_answer(what: str) -> Iterator[None]:
 
 
 def _taken_apart(line: bytes) -> tuple[bytes, list[bytes]]:
-    """A line with numbers in place of its lists of pieces, from 0, and these lists."""
+    """A line with numbers in place of its lists, from 0, and these lists. Raises `ValueError` for one that has no end."""
     lists: list[bytes] = []
-    text, *parts = line.split(b"[[")
-    texts = [text]
-    for number, part in enumerate(parts):
-        pieces, _, behind = part.partition(b"]]")
-        lists.append(b"[[%b]]" % pieces)
-        texts.append(b"%d%b" % (number, behind))
-    return b"".join(texts), lists
+    for front, begin, end, behind in _CUTS:
+        texts, at = [], 0
+        while (found := line.find(front + begin, at)) >= 0:
+            first = found + len(front)
+            last = line.index(end + behind, first) + len(end)
+            texts.append(b"%b%d" % (line[at:first], len(lists)))
+            lists.append(line[first:last])
+            at = last
+        texts.append(line[at:])
+        line = b"".join(texts)
+    return line, lists
 
 
 def _without_matchings(line: bytes) -> tuple[bytes, list[bytes]]:
     """A line with 0 in place of its list of matchings, and that list; or a line that has none as it is."""
-    front, found, behind = line.rpartition(b'],"next":')
-    head, found_too, matchings = front.partition(b'"matchings":[')
-    if not (found and found_too):
+    end = line.rfind(_NEXT) + 1
+    if not (end and line.startswith(_MATCHINGS)):
         return line, []
-    return b'%b"matchings":0,"next":%b' % (head, behind), [b"[%b]" % matchings]
+    begin = len(_MATCHINGS) - 1
+    return b"%b0%b" % (_MATCHINGS[:-1], line[end:]), [line[begin:end]]
