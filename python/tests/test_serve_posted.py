@@ -12,7 +12,7 @@ from conftest import REFERENCE, TOP, Program, Tools
 from olr.asking.records import Answered
 from olr.errors import ProgramEnded
 from olr.model.questions import NUMBERS, OPTIONS, What
-from olr.serving.feature_texts import lines_of
+from olr.serving.feature_texts import MOST_ANSWER, lines_of
 from olr.serving.features import OF_LINES
 from olr.serving.limits import MIB
 from olr.serving.posted import MOST_BYTES, MOST_REFS, posted_of, records_of
@@ -259,7 +259,7 @@ def test_an_answer_that_is_too_large_for_features() -> None:
     """It isn't read: its record has a fault."""
     network = olr.Network.read(TOP / "examples")
     judged_by = JudgedBy(asked_of("match", {}, 10), None)
-    (feature,) = features_in(lines_of(answered(MIB + 1), network, judged_by))
+    (feature,) = features_in(lines_of(answered(MOST_ANSWER + 1), network, judged_by))
     assert feature["properties"]["fault"] == "AnswerTooLarge" and feature["geometry"] is None
     with pytest.raises(ProgramEnded, match="what is no answer"):
-        lines_of(answered(MIB), network, judged_by)
+        lines_of(answered(MOST_ANSWER), network, judged_by)
