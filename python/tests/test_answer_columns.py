@@ -212,8 +212,8 @@ def test_pieces_sum_to_the_lengths(folder: Path, texts: list[str], program: Prog
         assert one["direction"] == (None if origin is None else "forward")
     some: Any = pieces.iloc[::37].itertuples()
     for piece in some:
-        wanted = network.geometry([(piece.line, round(piece.from_m * 10), round(piece.to_m * 10))])
-        assert piece.geometry.equals_exact(wanted, 1e-12)
+        wanted = network.path([(piece.line, round(piece.from_m * 10), round(piece.to_m * 10))])
+        assert np.allclose(piece.geometry.coords, wanted, rtol=0, atol=1e-12)
 
 
 def test_types_never_change(program: Program) -> None:
@@ -286,7 +286,7 @@ def test_lines_of_many_rows_at_once(folder: Path) -> None:
         row = [next(points) for _ in range(size)]
         wanted: list[tuple[float, float]] = []
         for id, start, end in (next(rest) for _ in range(count)):
-            whole = network.line(id)
+            whole = LineString(network.path([(id, 0, lengths[id])]))
             east = math.cos(math.radians(whole.coords[0][1]))
             plane = scale(whole, east, 1, origin=(0, 0))
             part = substring(plane, start / lengths[id], end / lengths[id], normalized=True)
@@ -307,6 +307,6 @@ def test_rows_that_meet_keep_their_ends() -> None:
     joined = network.polylines(pieces, np.array([2]))
     apart = network.polylines(pieces, np.array([0, 1, 0, 1]))
     assert (joined.sizes.tolist(), apart.sizes.tolist()) == ([5], [0, 3, 0, 3])
-    lines = [*network.line(104).coords, *network.line(107).coords]
+    lines = [tuple(it) for piece in pieces.tolist() for it in network.path([piece]).tolist()]
     assert list(map(tuple, apart.points.tolist())) == lines
     assert list(map(tuple, joined.points.tolist())) == [*lines[:3], *lines[4:]]

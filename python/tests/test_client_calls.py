@@ -284,7 +284,7 @@ def test_a_map_that_changes(folder: Path, program: Program) -> None:
             town.network()
         refused = "another version than the answer is of: take the network of the Map"
         with pytest.raises(olr.MapRefused, match=refused):
-            other.geometry(first.matchings[0].route)
+            other.path(first.matchings[0].route)
         for page in (first, kiosk):
             with pytest.raises(olr.MapRefused, match=refused):
                 olr.to_pieces([page], other)
@@ -334,11 +334,9 @@ def test_digests(folder: Path, monkeypatch: pytest.MonkeyPatch) -> None:
 
 def test_positions_that_arent_on_a_line() -> None:
     network = olr.Network.read(EXAMPLES)
-    assert network.point((104, 2435)).geom_type == "Point"
     calls: list[tuple[int, Call]] = [
-        (2436, lambda: network.point((104, 2436))),
-        (2436, lambda: network.geometry([(104, 0, 2436)])),
-        (-1, lambda: network.geometry([(104, -1, 5)])),
+        (2436, lambda: network.path([(104, 0, 2436)])),
+        (-1, lambda: network.path([(104, -1, 5)])),
     ]
     for at, call in calls:
         words = f"position {at} isn't on line 104 of the map in .*, which is 2435 dm long"

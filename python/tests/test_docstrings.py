@@ -61,4 +61,4 @@ def test_help_begins_with_what_to_do_first() -> None:
     text = inspect.getdoc(olr) or ""
     first, second, *_ = text.partition("\n\n")[2].split("\n\n")
     assert "install" in first and second.startswith(">>> import olr\n>>> with olr.Map(")
-    assert {"Places.to_dict", "Network.geometry", "View.save", "locate", "view"} <= ALL.keys()
+    assert {"Places.to_dict", "Network.path", "View.save", "locate", "view"} <= ALL.keys()

@@ -4,6 +4,7 @@ import csv
 import fiona
 import geopandas
 import json
+import numpy as np
 import os
 import pandas
 import pytest
@@ -90,9 +91,9 @@ def test_geojson_is_read_by_others(tmp_path: Path) -> None:
         with fiona.open(out) as layer:
             assert len(layer) == count and layer.crs.to_epsg() == 4326
     assert features[0]["properties"]["key"] == 'a"\\ö'
-    first = olr.Network.read(EXAMPLES).point((104, 879))
+    (first,) = olr.Network.read(EXAMPLES).points_at(np.array([(104, 879)])).tolist()
     drawn = features[0]["geometry"]["coordinates"][0]
-    assert drawn == [7.416942, 49.87128] == pytest.approx([first.x, first.y], abs=1e-6)
+    assert drawn == [7.416942, 49.87128] == pytest.approx(first, abs=1e-6)
 
 
 @pytest.mark.parametrize("kind", ["gpkg", "csv"])

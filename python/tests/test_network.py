@@ -8,6 +8,7 @@ import subprocess
 from collections.abc import Sequence
 from pathlib import Path
 from pyproj import Geod
+from typing import Any
 
 import olr
 from asking import draw_map, draw_references
@@ -15,7 +16,7 @@ from conftest import REFERENCE, TOP, Program
 from olr.errors import ToolError
 from olr.geometry.network import middle
 from olr.model.map_folder import read_map
-from olr.model.pieces import Pieces, Place
+from olr.model.pieces import Pieces, Place, Spot
 
 ELLIPSOID = Geod(ellps="WGS84")
 KIOSK = "KwVGnCN20HPDBwFCATFjT5Y="
@@ -40,7 +41,7 @@ def test_what_is_read(folder: Path, network: olr.Network) -> None:
     assert network.node_id.tolist() == sorted(positions)
     for line in road_map.lines:
         points = [positions[line.start], *line.shape, positions[line.end]]
-        drawn = np.round(np.array(network.line(line.id).coords) * 1e6).astype(int)
+        drawn = np.round(network.path([(line.id, 0, line.length)]) * 1e6).astype(int)
         assert drawn.tolist() == [list(point) for point in points]
 
 
@@ -49,62 +50,53 @@ def test_lengths_of_pieces(folder: Path, network: olr.Network) -> None:
     for line in read_map(folder).lines[:150]:
         start = draw.randrange(line.length)
         end = draw.randrange(start, line.length) + 1
-        whole = ELLIPSOID.geometry_length(network.geometry([(line.id, 0, line.length)]))
-        part = ELLIPSOID.geometry_length(network.geometry([(line.id, start, end)]))
+        whole = ELLIPSOID.line_length(*network.path([(line.id, 0, line.length)]).T)
+        path = network.path([(line.id, start, end)])
+        part = ELLIPSOID.line_length(*path.T)
         assert part == pytest.approx(whole * (end - start) / line.length, rel=3e-3, abs=0.01)
-        assert network.geometry([(line.id, 0, line.length)]).equals(network.line(line.id))
-        ends = network.geometry([(line.id, start, end)]).boundary.geoms
-        for point, at in zip(ends, (start, end)):
-            assert point.distance(network.point((line.id, at))) < 1e-12
+        points = network.points_at(np.array([(line.id, start), (line.id, end)]))
+        assert np.allclose(path[[0, -1]], points, atol=1e-12, rtol=0)
 
 
-def test_parts_are_whole_and_their_ends_meet(
-    folder: Path, network: olr.Network, program: Program
-) -> None:
-    lines = {line.id: line for line in read_map(folder).lines}
-    seen = 0
-    with olr.Map.of_folder(folder, program=program.path) as asked:
-        for page in asked.matches(draw_references(folder, 60)[:30]):
-            if isinstance(page, olr.Fault):
-                continue
-            for matching in page.matchings:
-                assert isinstance(matching.route, Pieces) and matching.outer is not None
-                ends = None
-                for piece in matching.route:
-                    line = network.geometry([piece])
-                    assert ends is None or ends == line.coords[0]
-                    ends = line.coords[-1]
-                route = network.geometry(matching.route)
-                assert route.geom_type == "LineString" and route.is_valid
-                first, last = matching.points[0], matching.points[-1]
-                assert route.coords[0] == network.point(first).coords[0]
-                assert route.coords[-1] == network.point(last).coords[0]
-                assert matching.route.length() == sum(leg.length for leg in matching.legs)
-                length = ELLIPSOID.geometry_length(network.geometry(matching.outer))
-                assert 0.95 < length / (matching.outer.length() / 10) < 1.005
-                assert {piece.line for piece in matching.outer} <= set(lines)
-                seen += 1
-    assert seen > 50
-
-
-def test_places_of_candidates_are_projections(
-    folder: Path, network: olr.Network, program: Program
-) -> None:
+def test_coordinates_of_answers(folder: Path, network: olr.Network, program: Program) -> None:
+    """They are those of the map's files, to a microdegree: each is rounded to a whole one. Of routes and their parts, of points and of near
+    lines, which lie so far from their points as is told."""
     seen = 0
     with olr.Map.of_folder(folder, radius=300, bearing=16, program=program.path) as asked:
         for text in draw_references(folder, 60):
             try:
-                points = olr.decode(text, program=program.path).points
-                reasons = asked.why(text, nearest=5)
+                page, why = asked.match(text, shape=True), asked.why(text, nearest=5, shape=True)
             except olr.Fault:
                 continue
-            for point, near in zip(points, reasons.points):
+            for matching in page:
+                drawn = matching.shape
+                assert drawn is not None and matching.route[0]
+                parts = [(matching.route, drawn.route), (matching.outer, drawn.outer)]
+                for pieces, spots in [*parts, (matching.inner, drawn.inner)]:
+                    path = [] if pieces is None else network.path(pieces)
+                    assert_same(spots or (), path)
+                    seen += 1
+                places = np.array([(one.line, one.at) for one in matching.points])
+                of_points = [one.spot for one in matching.points if one.spot]
+                assert_same(of_points, network.points_at(places))
+            points = olr.decode(text, program=program.path).points
+            for point, near in zip(points, why.points):
                 for line in near.nearest:
-                    place = network.point(line)
-                    _, _, metres = ELLIPSOID.inv(point.lon / 1e6, point.lat / 1e6, place.x, place.y)
+                    assert line.spot is not None
+                    assert_same([line.spot], network.points_at(np.array([(line.line, line.at)])))
+                    here = point.lon / 1e6, point.lat / 1e6
+                    _, _, metres = ELLIPSOID.inv(*here, line.spot.lon / 1e6, line.spot.lat / 1e6)
                     assert metres == pytest.approx(line.distance / 100, rel=0.01, abs=1)
                     seen += 1
     assert seen > 500
+
+
+def assert_same(spots: Sequence[Spot], points: Any) -> None:
+    """Spots are these points, to a microdegree. Of neighbours that are equal one is left."""
+    whole = np.array(spots).reshape(-1, 2)
+    exact = np.array(points).reshape(-1, 2) * 1e6
+    for one, others in [*((it, exact) for it in whole), *((it, whole) for it in exact)]:
+        assert np.abs(others - one).max(axis=1).min() <= 1
 
 
 def test_a_folder_alone() -> None:
@@ -115,12 +107,12 @@ def test_a_folder_alone() -> None:
 
 def test_pieces_that_arent_there(network: olr.Network, tmp_path: Path) -> None:
     with pytest.raises(ToolError, match="has no line 5: read the map that the answer is of"):
-        network.geometry([(5, 0, 10)])
+        network.path([(5, 0, 10)])
     line, length = int(network.line_id[0]), int(network.length[0])
     for start, end in ((length, 0), (6, 5)):
         with pytest.raises(ToolError, match=f"line {line} from {start} to {end} runs backwards: g"):
-            network.geometry([(line, 0, 7), (line, start, end)])
-    assert len(network.geometry([(line, 5, 5)]).coords) == 2
+            network.path([(line, 0, 7), (line, start, end)])
+    assert len(network.path([(line, 5, 5)])) == 2
     with pytest.raises(ToolError, match="can't be read"):
         olr.Network.read(tmp_path / "none")
     (tmp_path / "nodes.csv").write_text("id,lon,lat\n1,0,0\n")
@@ -134,7 +126,7 @@ def test_pieces_that_arent_there(network: olr.Network, tmp_path: Path) -> None:
         olr.Network.read(tmp_path)
     (tmp_path / "lines.csv").write_text("id,from,to,class,form,length,shape\n")
     assert len(olr.Network.read(tmp_path).line_id) == 0
-    assert network.geometry([]).is_empty
+    assert not len(network.path([]))
 
 
 @pytest.mark.parametrize(
@@ -207,7 +199,8 @@ def test_tables(program: Program, tmp_path: Path, suffix: str) -> None:
     assert places[["key", "gap", "margin"]].values.tolist() == [[0, 7, 7], [0, 0, 7]]
     point = kiosk.geometry[0]
     assert point.geom_type == "Point"
-    assert point.distance(network.point((701, (2697 + 2716) // 2))) < 1e-6
+    (halfway,) = network.points_at(np.array([(701, (2697 + 2716) // 2)])).tolist()
+    assert [point.x, point.y] == pytest.approx(halfway, abs=1e-6)
     file = tmp_path / f"table{suffix}"
     table.to_file(file)
     assert geopandas.read_file(file)["total"].dropna().astype(int).tolist() == [8, 64, 71]

@@ -10,6 +10,7 @@ import re
 from collections.abc import Iterator
 from dataclasses import replace
 from pathlib import Path
+from shapely.geometry import LineString
 from typing import Any
 from xml.etree import ElementTree
 
@@ -170,7 +171,7 @@ def test_the_part_of_the_geometry(town: olr.Map) -> None:
     assert best.outer and best.inner
     # To a microdegree: coordinates of answers are whole ones.
     for drawn, part in ((outer, best.outer), (inner, best.inner)):
-        assert drawn.equals_exact(town.network().geometry(part), 1.001e-6)
+        assert drawn.equals_exact(LineString(town.network().path(part)), 1.001e-6)
     with pytest.raises(ValueError, match="outer or inner, not 'middle'"):
         olr.locate(table_of(SLOW), "ref", None, part="middle")  # type: ignore[arg-type]
     with pytest.raises(ValueError, match="outer or inner, not 'middle'"):
@@ -329,7 +330,7 @@ def test_the_lines_of_a_map(own_folder: Path) -> None:
         assert [(round(lon * 1e6), round(lat * 1e6)) for lon, lat in found[6].coords] == path
     some = network.to_geodataframe([501, 104])
     assert some["line"].tolist() == [501, 104]
-    assert some.geometry[1].equals(network.line(104))
+    assert some.geometry[1].coords[:] == list(map(tuple, network.path([(104, 0, 2435)]).tolist()))
     with pytest.raises(olr.ToolError, match="has no line 7"):
         network.to_geodataframe([7])
 

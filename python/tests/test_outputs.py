@@ -15,6 +15,8 @@ from pathlib import Path
 
 from conftest import REFERENCE, TOP, Program
 from olr.errors import ToolError
+from olr.matching.columns import ANSWERS, IN_FRONT
+from olr.matching.geopackage import make
 from olr.outputs import PREFIX, require_free_file, whole_file, write_whole
 from olr.regions import geopackage
 from olr.running.joining import join, lines_of
@@ -95,16 +97,17 @@ def test_a_disk_with_room_for_an_empty_layer_alone(
     tmp_path: Path, capsys: pytest.CaptureFixture[str]
 ) -> None:
     """The empty file fits, and what SQLite makes of it doesn't."""
-    out = tmp_path / "out.gpkg"
-    make(tmp_path / "empty.gpkg", "match", {**IN_FRONT, **ANSWERS})
-    size = (tmp_path / "empty.gpkg").stat().st_size
-    (tmp_path / "empty.gpkg").unlink()
+    out, many = tmp_path / "out.gpkg", tmp_path / "many.tsv"
+    many.write_text((EXAMPLES / "messages.tsv").read_text() * 40)
+    make(out, "match", {**IN_FRONT, **ANSWERS})
+    size = out.stat().st_size
+    out.unlink()
     with full_disk(size + 1):
-        assert olr_tools(*MATCH, "--out", out) == 1
+        assert olr_tools("match", many, "--map", EXAMPLES, "--out", out) == 1
     assert capsys.readouterr().err.splitlines() == [
         f"olr-tools: {out} can't be written: Input/output error"
     ]
-    assert not list(tmp_path.iterdir())
+    assert list(tmp_path.iterdir()) == [many]
 
 
 @pytest.mark.parametrize("words", [["regions", EXAMPLES], IMPORT])

@@ -70,12 +70,12 @@ def test_pieces_of_another_version(network: olr.Network) -> None:
 def test_positions_on_a_line(at: int, is_on: bool, network: olr.Network) -> None:
     """From its start to its end."""
     if is_on:
-        assert network.point((7, at)).x * 1e6 == pytest.approx(at)
+        assert network.points_at(np.array([(7, at)]))[0, 0] * 1e6 == pytest.approx(at)
         assert len(network.path([(7, at, at)])) == 2
         return
     said = f"position {at} isn't on line 7 of the map in .*, which is 2000 dm long"
     with pytest.raises(ToolError, match=said):
-        network.point((7, at))
+        network.points_at(np.array([(7, at)]))
     with pytest.raises(ToolError, match=said):
         network.path([(7, 0, at)])
 

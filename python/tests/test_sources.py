@@ -243,7 +243,7 @@ def test_a_network_of_a_store_that_is_made_again_has_its_sources(tmp_path: Path)
     assert network.sources()[7].source == "S"
     write_origins(folder / "ids.csv", [Origin(7, "T", "forward", 0)], [])
     make_store_of_folder(folder, file, force=True)
-    assert network.line(7).length > 0
+    assert len(network.path([(7, 0, 1)])) == 2
     assert network.sources()[7].source == "T"
 
 

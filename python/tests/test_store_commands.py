@@ -1,6 +1,7 @@
 """Commands that take a store in place of a folder: `match` and `view`, and `olr.Network`."""
 
 import json
+import numpy as np
 import os
 import pytest
 import random
@@ -84,24 +85,23 @@ def test_a_network(town: Town) -> None:
     for _ in range(8):
         some = draw.sample(lines, 3)
         pieces = [(line.id, line.length // 3, line.length) for line in some]
-        assert part.geometry(pieces).equals_exact(whole.geometry(pieces), ROUNDED)
-        assert part.line(some[0].id).equals(whole.line(some[0].id))
-        place = (some[1].id, some[1].length // 2)
-        assert part.point(place).equals_exact(whole.point(place), ROUNDED)
+        assert np.allclose(part.path(pieces), whole.path(pieces), rtol=0, atol=ROUNDED)
+        place = np.array([(some[1].id, some[1].length // 2)])
+        assert np.allclose(part.points_at(place), whole.points_at(place), rtol=0, atol=ROUNDED)
     with pytest.raises(olr.ToolError, match="hasn't 1 of 1 lines"):
-        part.line(7)
+        part.path([(7, 0, 1)])
 
 
 def test_a_network_of_another_version(town: Town, store: Path) -> None:
     with olr.Map(town.store) as asked:
         pages = [page for page in asked.matches(references(town, 40)) if isinstance(page, olr.Page)]
         route = next(page.matchings[0].route for page in pages if page.matchings)
-        expected = olr.Network.read(town.folder).geometry(list(route))
-        assert asked.network().geometry(route).equals_exact(expected, ROUNDED)
+        expected = olr.Network.read(town.folder).path(list(route))
+        assert np.allclose(asked.network().path(route), expected, rtol=0, atol=ROUNDED)
         with pytest.raises(olr.MapRefused, match="another version than the answer"):
-            olr.Network.read(store).geometry(route)
+            olr.Network.read(store).path(route)
         with pytest.raises(olr.MapRefused, match="another version than the answer"):
-            olr.Network.read(town.folder).geometry(route)
+            olr.Network.read(town.folder).path(route)
 
 
 def test_check(
@@ -130,11 +130,11 @@ def test_check(
 def test_no_room_for_scratch_files(store: Path, scratch: Path) -> None:
     network, pieces = olr.Network.read(store), [(104, 0, 2435), (107, 0, 2150), (201, 0, 324)]
     with full_disk(), pytest.raises(olr.ToolError) as raised:
-        network.geometry(pieces)
+        network.path(pieces)
     said = "scratch files can't be written: File too large: name another folder for scratch files by TMPDIR"
     assert str(raised.value) == said
     assert os.listdir(scratch) == []
-    assert network.geometry(pieces).equals(olr.Network.read(EXAMPLES).geometry(pieces))
+    assert network.path(pieces).tolist() == olr.Network.read(EXAMPLES).path(pieces).tolist()
 
 
 def test_check_of_a_damaged_store(store: Path, capsys: pytest.CaptureFixture[str]) -> None:

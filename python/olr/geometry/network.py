@@ -1,7 +1,6 @@
-"""A map as arrays, to draw what is on it: the geometry of pieces of lines, and of places on them.
+"""A map as arrays, to measure what is on it: the polylines of pieces of lines, and points on them.
 
-Coordinates are in degrees (WGS 84), longitude first. Positions on lines are in decimetres. It needs numpy alone, but for geometries as
-objects: these are shapely's.
+Coordinates are in degrees (WGS 84), longitude first. Positions on lines are in decimetres.
 """
 
 from collections.abc import Iterable, Sequence
@@ -25,7 +24,6 @@ with needed_by("olr.Network", "geo"):
 
 if TYPE_CHECKING:
     import geopandas
-    from shapely.geometry import LineString, Point
 
 
 class OnLine(Protocol):
@@ -46,12 +44,9 @@ class Network:
 
     >>> import olr
     >>> with olr.Map("examples") as town:
-    ...     network, best = town.network(), town.match("CwVF/yN2yRpnBAFUAAgbpwYBAf9kK0Fa").matchings[0]
+    ...     town.network()
     ...
-    >>> network
     <Network of examples: 20 nodes, 41 lines>
-    >>> network.geometry(best.outer).geom_type
-    'LineString'
     """
 
     def __init__(self, nodes: PathLike, lines: PathLike | None = None) -> None:
@@ -135,21 +130,6 @@ class Network:
         result: Floats = self.node_points[places].reshape(-1, 2)
         return result
 
-    def line(self, id: int) -> "LineString":
-        """The whole polyline of a line, in degrees. Raises `ToolError` if the map hasn't this line.
-
-        >>> import olr
-        >>> network = olr.Network.read("examples")
-        >>> network.line(104).coords[0]
-        (7.41572, 49.871269)
-        >>> network.line(7)
-        Traceback (most recent call last):
-        olr.errors.ToolError: the map in examples has no line 7: read the map that the answer is of
-        """
-        (index,) = self.indices_of(np.array([id]))
-        first = self.first[index]
-        return _line_string(self.points[first : first + self.sizes[index]])
-
     def sources(self) -> Sources:
         """Where the lines came from: the `ids.csv` of the map's folder, which is read once; none if there is no such file. Raises
         `ToolError` if it can't be read.
@@ -163,21 +143,11 @@ class Network:
             self._sources = Sources.of_folder(self.folder)
         return self._sources
 
-    def geometry(self, pieces: Pieces | Iterable[Sequence[int]]) -> "LineString":
-        """The line of pieces, one behind the other; an empty one for no pieces. A piece is a line's id and two positions.
+    def path(self, pieces: Pieces | Iterable[Sequence[int]]) -> Floats:
+        """The points of the line of pieces, one behind the other, in degrees; none for no pieces. A piece is a line's id and two positions.
 
         A position is a share of the line's length, and the same share of its polyline, as the program counts. Raises `MapRefused`
         if the pieces are of another version of the map, and `ToolError` if it hasn't such a line, it ends before, or a piece runs backwards.
-
-        >>> import olr
-        >>> network = olr.Network.read("examples")
-        >>> network.geometry([(104, 0, 2435)]).equals(network.line(104))
-        True
-        """
-        return _line_string(self.path(pieces))
-
-    def path(self, pieces: Pieces | Iterable[Sequence[int]]) -> Floats:
-        """The points of what `geometry` makes of pieces, in degrees; none for no pieces. Raises as `geometry`.
 
         >>> import olr
         >>> network = olr.Network.read("examples")
@@ -191,8 +161,7 @@ class Network:
 
     def polylines(self, pieces: Integers, counts: Integers) -> Polylines:
         """The lines of many rows of pieces: `pieces` has a line's id and two positions of each, and `counts` says how many of them each
-        polyline has. It is what `geometry` makes of each row of them, hundreds of times as fast. Raises `ToolError` if the map hasn't
-        such a line, it ends before, or a piece runs backwards.
+        polyline has. It is what `path` makes of each row of them, hundreds of times as fast. Raises `ToolError` as `path`.
 
         >>> import numpy, olr
         >>> pieces = numpy.array([[104, 0, 2435], [107, 0, 45]])
@@ -277,22 +246,9 @@ class Network:
             crs="EPSG:4326",
         )
 
-    def point(self, place: OnLine | tuple[int, int]) -> "Point":
-        """The point of a place, or of a candidate, in degrees. Raises `ToolError` if the map hasn't this line, or it ends before.
-
-        >>> import olr
-        >>> network = olr.Network.read("examples")
-        >>> network.point(olr.Place(104, 0)).wkt
-        'POINT (7.41572 49.871269)'
-        """
-        id, at = place if isinstance(place, tuple) else (place.line, place.at)
-        (point,) = self.points_at(np.array([[id, at]]))
-        with needed_by("olr.Network.point", "geo"):
-            from shapely.geometry import Point
-        return Point(point)
-
     def points_at(self, places: Integers) -> Floats:
-        """The points of places, of which each row has a line's id and a position. Raises `ToolError` as `point` does.
+        """The points of places, of which each row has a line's id and a position. Raises `ToolError` if the map hasn't this line, or it ends
+        before.
 
         >>> import numpy, olr
         >>> olr.Network.read("examples").points_at(numpy.array([[104, 0]])).tolist()
@@ -383,13 +339,6 @@ def middle(route: Pieces, earliest: Place, latest: Place) -> Place:
             return Place(line, start + wanted)
         wanted -= end - start
     return latest
-
-
-def _line_string(points: Floats) -> "LineString":
-    """The line through points; an empty one for none."""
-    with needed_by("olr.Network.geometry", "geo"):
-        from shapely.geometry import LineString
-    return LineString(points) if len(points) else LineString()
 
 
 def _sums(values: Integers | Booleans, sizes: Integers) -> Integers:

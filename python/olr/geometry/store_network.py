@@ -21,7 +21,6 @@ from olr.regions.store import Store
 
 if TYPE_CHECKING:
     import geopandas
-    from shapely.geometry import LineString
 
 
 class PartOfNetwork(Network):
@@ -39,7 +38,7 @@ class PartOfNetwork(Network):
 
 
 class StoreNetwork(Network):
-    """The lines of a store, as a `Network`: `line`, `geometry` and `point` are those of any. It has no arrays of the whole map: `having` and
+    """The lines of a store, as a `Network`: `path` and `polylines` are those of any. It has no arrays of the whole map: `having` and
     `around` give a `Network` of the lines that are asked for. Threads wait for one another."""
 
     def __init__(self, path: Path) -> None:
@@ -89,10 +88,6 @@ class StoreNetwork(Network):
             discs.append(Disc(lon, lat, radius, scale))
         with self._asking, self._store.reading() as store:
             return PartOfNetwork(store, store.lines_meeting(discs))
-
-    def line(self, id: int) -> "LineString":
-        """The whole polyline of a line. Raises `ToolError` if the map hasn't this line."""
-        return self.having([id]).line(id)
 
     def to_geodataframe(self, lines: Iterable[int] | None = None) -> "geopandas.GeoDataFrame":
         """As `Network.to_geodataframe`, of the lines that are named. Raises `ToolError` if none are."""
