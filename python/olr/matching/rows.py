@@ -260,7 +260,9 @@ class _Lines:
     @cached_property
     def _origins(self) -> list[Origin | None]:
         """Of each line; nothing where nobody knows one."""
-        found = None if self._sources is None else self._sources.sources()
+        if self._sources is None or not self._ids:
+            return []
+        found = self._sources.sources()
         return [found.get(line) for line in self._ids] if found else []
 
     def _each(self, values: Sequence[Item]) -> list[Item]:
