@@ -6,11 +6,11 @@ No more of them are held than are being asked, or are rows of one chunk.
 from collections import Counter
 from collections.abc import Iterator, Mapping
 from itertools import islice, tee
+from typing import TYPE_CHECKING
 
 from olr.client.map_client import Map
 from olr.confidence.judged import Judging
 from olr.confidence.shown import listed_within
-from olr.geometry.network import Network
 from olr.matching.chunks import Answered, chunks_of
 from olr.matching.lacking import Lacking
 from olr.matching.reasons import ReasonsBeside, rows_of_reasons
@@ -22,6 +22,9 @@ from olr.model.answers import AnswerOrFault, Page, Places, Why
 from olr.model.fault import Fault
 from olr.model.questions import Setting, What
 from olr.progress import progress
+
+if TYPE_CHECKING:
+    from olr.geometry.network import Network
 
 NOWHERE = "none"
 """What an answer is counted as without a place or matching: it is the verdict of `places` too."""
@@ -59,7 +62,7 @@ class Asked:
         judging: Judging,
         rows: Sink,
         pieces: Sink | None,
-        network: Network | None,
+        network: "Network | None",
     ) -> None:
         """Asks where the references are, and writes rows of the answers, judged, and of their pieces, which have geometries if there is a
         network. Raises `ToolError`."""

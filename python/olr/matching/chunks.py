@@ -2,15 +2,17 @@
 
 from collections.abc import Iterable, Iterator, Sequence
 from functools import cached_property
-from typing import Generic, NamedTuple, TypeVar
+from typing import TYPE_CHECKING, Generic, NamedTuple, TypeVar
 
 from olr.confidence.judged import Judging, judged
-from olr.geometry.network import Network
 from olr.matching.columns import ANSWERS, PIECES
 from olr.matching.rows import AnswerRows, Extent, Ground, Located, PieceRows, Row, Rows, rows_of
 from olr.matching.tables import values_of
 from olr.model.answers import AnswerOrFault, Candidates, Page, Places
 from olr.model.fault import Fault
+
+if TYPE_CHECKING:
+    from olr.geometry.network import Network
 
 Item = TypeVar("Item")
 Counted = Candidates | Fault | None
@@ -50,7 +52,7 @@ class Chunk(Generic[Item]):
         made = AnswerRows(self._rows, self._sources, extent)
         return Rows([row.number for row in made.rows], values_of(ANSWERS, made), made.shapes)
 
-    def pieces(self, network: Network | None) -> Rows:
+    def pieces(self, network: "Network | None") -> Rows:
         """The table of pieces, which have geometries if a network is given. Raises `ToolError` if it hasn't a line of an answer, `MapRefused`
         if it is of another version of the map, and as `Sources`."""
         made = PieceRows(self._rows, self._sources, network)

@@ -4,17 +4,19 @@ import numpy as np
 from collections.abc import Callable, Mapping, Sequence
 from functools import cached_property
 from itertools import groupby
-from typing import Any, Literal, NamedTuple, TypeVar, get_args
+from typing import TYPE_CHECKING, Any, Literal, NamedTuple, TypeVar, get_args
 
 from olr.arrays import Booleans, Floats, Integers
 from olr.confidence.judged import Judged, JudgedPlace
-from olr.geometry.network import Network
 from olr.geometry.parts import Parts, Polylines, parts_of, polylines_of
 from olr.model.answers import Matching, Page, Places
 from olr.model.fault import Fault
 from olr.model.pieces import Pieces, Spots, between
 from olr.model.road_map import Origin
 from olr.model.sources import HasSources
+
+if TYPE_CHECKING:
+    from olr.geometry.network import Network
 
 Ground = HasSources
 """What rows have of a map besides the answers: where its lines came from."""
@@ -206,7 +208,7 @@ class PieceRows:
     as the part `point`."""
 
     def __init__(
-        self, rows: Sequence[Row], sources: Ground | None, network: Network | None
+        self, rows: Sequence[Row], sources: Ground | None, network: "Network | None"
     ) -> None:
         """Without a network they have no geometries. Raises `MapRefused` if it is of another version of the map than an answer."""
         for row in rows:
