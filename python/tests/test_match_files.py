@@ -13,6 +13,7 @@ import sqlite3
 import subprocess
 import sys
 from pathlib import Path
+from typing import Any
 
 import olr
 from asking import draw_map, draw_references
@@ -78,6 +79,25 @@ def test_pieces_in_each_kind_of_file(tmp_path: Path, capsys: pytest.CaptureFixtu
         assert sums.round(6).to_dict() == answers["outer_m"].to_dict()
     assert all(it.geom_type == "LineString" for it in tables[2]["geometry"])
     assert (tmp_path / "out.csv").read_text().splitlines()[0].startswith("record,key,likely,rank,")
+
+
+def test_what_rows_are_made_of(tmp_path: Path, monkeypatch: pytest.MonkeyPatch) -> None:
+    """Of answers, with coordinates where there is room for them, and of nothing else of the map."""
+    asked: list[bool] = []
+    answers = olr.Map.answers
+
+    def noted(town: olr.Map, what: Any, refs: Any, **settings: Any) -> Any:
+        asked.append(settings.get("shape", False))
+        return answers(town, what, refs, **settings)
+
+    monkeypatch.setattr(olr.Map, "answers", noted)
+    monkeypatch.setattr(olr.Map, "network", None)
+    ways: list[tuple[str, ...]] = [("csv",), ("csv", "--places"), ("gpkg",), ("geojson",)]
+    for kind, *words in ways:
+        out, pieces = tmp_path / f"out.{kind}", tmp_path / "pieces.csv"
+        assert match(out, *words, "--pieces", pieces, "--force") == 0
+        assert sum(asked) == (kind != "csv")
+        asked.clear()
 
 
 def test_geojson_is_read_by_others(tmp_path: Path) -> None:

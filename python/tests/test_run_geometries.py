@@ -136,6 +136,12 @@ def test_words_and_files(
     features = json.loads(out.read_text())["features"]
     assert f"{out}: {len(features):,} rows\n" in capsys.readouterr().out
     assert {one["properties"]["record"] for one in features} == set(range(1, 301))
+    assert all(one["geometry"] for one in features if one["properties"]["rank"])
+    # The lines have coordinates from now on, whether it is asked for them again or not.
+    before = sorted((tmp_path / "out/parts").iterdir())
+    texts = [part.read_bytes() for part in before]
+    assert olr_tools(*words, "--resume") == 0 and b'"shape"' in texts[0]
+    assert [part.read_bytes() for part in before] == texts
 
 
 def test_another_store(

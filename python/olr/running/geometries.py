@@ -70,13 +70,13 @@ def write_geometries(
     """Writes the rows of the lines of parts, one part behind the other. Raises `ToolError` if a file can't be written, or reading the parts or
     the map does, and `MapRefused` if the map isn't that of the question: then all files are as they were.
     """
-    sources = Map.of_folder(map.path)
     network = None
     if asked.pieces is not None and has_geometries(asked.pieces):
         network = map.network(question.store)
     outputs = asked.outputs(question.what)
     cut_off = 0
     with ExitStack() as stack:
+        sources = stack.enter_context(Map.of_folder(map.path))
         own = asked.messages
         notes = None if own is None else stack.enter_context(notes_of(own))
         sinks = [
