@@ -32,7 +32,7 @@ def ended(folder: Path, files: int, *words: object) -> tuple[int, str]:
 @pytest.mark.parametrize(
     "files, words",
     [
-        (12, ["match", MESSAGES, "--map", EXAMPLES, "--out", "OUT"]),
+        (9, ["match", MESSAGES, "--map", EXAMPLES, "--out", "OUT"]),
         (5, ["regions", EXAMPLES, "--out", "OUT"]),
         (20, ["serve", "--map", EXAMPLES, "--port", 0]),
     ],

@@ -316,7 +316,7 @@ def test_setup_in_a_virtual_environment_names_pip(
     monkeypatch.setattr("olr.setup.sys.prefix", "environment")
     monkeypatch.setattr("olr.setup.sys.executable", "environment/bin/python")
     monkeypatch.setattr("olr.setup.os.geteuid", lambda: 0)
-    monkeypatch.setattr("olr.setup.metadata.version", version)
+    monkeypatch.setattr("importlib.metadata.version", version)
     monkeypatch.setattr("olr.setup.importlib.util.find_spec", found)
     monkeypatch.setattr("olr.setup.subprocess.run", never)
     assert setup.set_up() == 1

@@ -97,16 +97,14 @@ class StoreSource:
 
     def within(self, box: Box, text: bytes) -> Line:
         """As `FilesSource.within`."""
-        if os.getpid() != self._owner:
-            raise forked_error()
+        self._require_owner()
         with self._asking, self._store.reading() as store:
             lines = store.lines_within_limits(box)
             return TOO_LARGE_LINE if lines is None else self._region(lines, store).within(box, text)
 
     def _ask(self, asked: Asked, chunk: "_Chunk", more: Sequence[str]) -> None:
         """Asks about references, at least about all of those before the first one that has an error. Raises `ToolError`."""
-        if os.getpid() != self._owner:
-            raise forked_error()
+        self._require_owner()
         with self._asking, self._store.reading() as store:
             for group in groups_of(chunk.points, Options.of(asked.numbers()), store, asked.what):
                 numbers = chunk.wanted(group.numbers)
@@ -117,6 +115,11 @@ class StoreSource:
                     texts = [chunk.texts[at] for at in numbers]
                     with closing(region.about(asked, texts, *more)) as lines:
                         chunk.take(numbers, lines)
+
+    def _require_owner(self) -> None:
+        """Raises `ToolError` in a process that was forked from the one that made this."""
+        if os.getpid() != self._owner:
+            raise forked_error()
 
     def _region(self, lines: Integers, store: Store) -> FilesSource:
         """What answers on a map that has these lines: what is there, or another one in its place. Raises `ToolError`."""
