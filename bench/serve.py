@@ -10,8 +10,8 @@
 4. What the page asks for (`GET /scene`) by one, two and four people, each from an address and with a radius of their own.
 5. `GET /match` by one client, while another one varies its options on eight connections.
 6. `GET /places` with numbers that were never asked before, and pages behind cursors, each beside the same again.
-7. The memory of the server and of all its processes while four clients ask for a thousand matchings of the reference in a file (--large), as
-   `generate_reference.py --points 24 --lines-per-leg 12` writes one, as GeoJSON and as JSON, and while four send the largest list with the most
+7. The memory of the server and of all its processes while four clients ask for matchings of the reference in a file (--large), as
+   `generate_reference.py --points 24 --lines-per-leg 12` writes one, for 250 as GeoJSON and for a thousand as JSON, and while four send the largest list with the most
    values, and how long `/health` takes meanwhile. What several processes share is divided among them (Pss). The status is 1 if the server itself
    had more than 300 MiB.
 
@@ -154,9 +154,10 @@ class Peaks:
 def large(server, port, text):
     """Prints what large answers cost."""
     peaks = Peaks(server)
-    path = f"{path_of('match', text)}&radius=400&percent=100&slack=10000&page=1000"
-    at_once(port, peaks, "GeoJSON", lambda: asked(port, path, Accept="application/geo+json"))
-    at_once(port, peaks, "GeoJSON as gzip", lambda: asked(port, path, Accept="application/geo+json", Accept_Encoding="gzip"))
+    asking = f"{path_of('match', text)}&radius=400&percent=100&slack=10000"
+    path, drawn = f"{asking}&page=1000", f"{asking}&page=250"
+    at_once(port, peaks, "GeoJSON", lambda: asked(port, drawn, Accept="application/geo+json"))
+    at_once(port, peaks, "GeoJSON as gzip", lambda: asked(port, drawn, Accept="application/geo+json", Accept_Encoding="gzip"))
     at_once(port, peaks, "JSON", lambda: asked(port, path))
     body = b"[" + b",".join([b"[]"] * (16 * 1024 * 1024 // 3 - 1)) + b"]"
     at_once(port, peaks, "answers to lists", lambda: asked(port, "/messages?format=json", "POST", body))

@@ -7,9 +7,8 @@ from typing import Any, NamedTuple
 
 from alone import Scripts
 from browser import Browser
-from olr.geometry.network import middle
 from olr.model.answers import Candidate, Leg, Matching, Reference, ReferencePoint
-from olr.model.pieces import Piece, Pieces, Place
+from olr.model.pieces import Piece, Pieces
 from olr.near_paths.notes import LegNote, near_paths
 from olr.near_paths.searching import least_length, other_walk
 from test_near_paths import Given, given, walks
@@ -184,23 +183,3 @@ def test_too_many_lines(alone: Scripts) -> None:
     notes = "notesOf(matching, { points: [{ lowest: 3 }] }, null, Streets.of(Network.of(map)), 0)"
     found = alone.value(notes, matching=matching, map=texts_of(about))
     assert found == {"notes": [], "others": []}
-
-
-def test_halfway(alone: Scripts) -> None:
-    """Between places on routes, also where a route comes to a line again, at the ends of pieces, and where a place isn't on it."""
-    draw = random.Random(5)
-    cases = []
-    expected = []
-    for _ in range(300):
-        route = [Piece(draw.randint(1, 4), 0, draw.choice([1, 2, 10])) for _ in range(4)]
-        places = [Place(draw.choice(route).line, draw.randint(0, 10)) for _ in range(2)]
-        place = middle(Pieces(route), *places)
-        given_places = [{"line": str(line), "at": at} for line, at in places]
-        cases.append([[piece_json(piece) for piece in route], *given_places])
-        expected.append({"line": str(place.line), "at": place.at})
-    assert alone.value("cases.map((one) => halfwayPlace(...one))", cases=cases) == expected
-
-
-def piece_json(piece: Piece) -> Json:
-    """A piece as the scripts have it."""
-    return {"line": str(piece.line), "from": piece.from_, "to": piece.to}

@@ -70,6 +70,12 @@ def test_answers_of_the_program(scripts: Scripts, program: Program, top: Path) -
     assert scripts.value("answers.map(exactJson)", answers=answers) == wanted
 
 
+def test_coordinates_are_numbers(scripts: Scripts) -> None:
+    """Their first one is no id."""
+    text = '{"shape":{"inner":null,"route":[[1,2],[3,4]]},"spot":{"latest":[5,6]}}'
+    assert scripts.value("exactJson(text)", text=text) == json.loads(text)
+
+
 def test_ids_beyond_the_numbers_of_javascript(scripts: Scripts) -> None:
     found = {
         '{"line":18446744073709551615,"at":9007199254740991}': {

@@ -26,7 +26,7 @@ from olr.pages.alone.tables import tables
 from olr.pages.view.scene import fits
 from olr.serving import scene_texts
 from olr.serving.ground import FolderGround
-from olr.serving.judging import listing_of
+from olr.serving.judging import listing_of, shaped
 from olr.serving.queries import asked_of
 from olr.serving.tasks import JudgedBy, SceneTask
 from region_maps import EAST, WEST, Point, hostile_map, hostile_text, text_of
@@ -72,7 +72,7 @@ class MapAsked(NamedTuple):
         names = {"profile", *tables()["tolerances"], *NUMBERS[what]}
         own = {name: value for name, value in options.items() if name in names}
         kind = asked_of(what, own, 1_000_000)
-        words = (listing_of(kind) if what == "places" else kind).words
+        words = shaped(listing_of(kind) if what == "places" else kind).words
         records = self.folder / "records.tsv"
         records.write_text("".join(f"{text}\n" for text in texts))
         ended = self.program.run("batch", what, "--map", self.folder, *words, "--input", records)

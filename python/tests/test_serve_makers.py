@@ -412,7 +412,8 @@ def test_a_disk_that_is_full(
 
 
 def test_worst_requests(drawn: Path, program: Program, tmp_path: Path) -> None:
-    """Four of each at once: the server itself has little of what is made. `bench/serve.py --large` measures those of the largest map."""
+    """Four of each at once: the server itself has little of what is made, but answers with coordinates of which GeoJSON is made. `bench/serve.py
+    --large` measures those of the largest map."""
     text = draw_references(drawn, 7)[6]
     path = path_of("match", text, radius=400, percent=100, slack=10_000, page=1000)
     values = b"[".ljust(1 << 24)

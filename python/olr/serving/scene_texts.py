@@ -28,7 +28,7 @@ def text_of(task: SceneTask, ground: Ground) -> bytes:
     chosen = chosen_by(task.judged_by)
     answered = _answered(task, network.digest)
     (judgement,) = judged([answered.places], chosen.judging)
-    scene = scene_of_answers(answered, network, judgement, chosen.judging.confidence)
+    scene = scene_of_answers(answered, judgement, chosen.judging.confidence)
     streets = partial(streets_for, task, ground)
     scene |= notes_of(scene, answered, network, numbers["lowest"], streets)
     box = box_of(scene)

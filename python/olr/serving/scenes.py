@@ -5,7 +5,7 @@ from typing import IO, NamedTuple
 from olr.model.fault import Fault
 from olr.model.profiles import PROFILE
 from olr.model.questions import NUMBERS, TOLERANCES, What, record_text
-from olr.serving.judging import listing_of
+from olr.serving.judging import listing_of, shaped
 from olr.serving.limits import Limits
 from olr.serving.makers import Makers
 from olr.serving.queries import Options, Question, asked_of, reference_of
@@ -56,11 +56,11 @@ class Scenes(NamedTuple):
         return await of_one_edition(self.served, ask)
 
     def _question(self, what: What, options: Options, text: bytes) -> Question:
-        """A question about a reference, with those of the options that it has."""
+        """A question about a reference, with those of the options that it has, and with shapes."""
         names = {PROFILE, *TOLERANCES, *NUMBERS[what]}
         own = {name: value for name, value in options.items() if name in names}
         asked = asked_of(what, own, self.limits.look)
-        return Question(listing_of(asked) if what == "places" else asked, text, None)
+        return Question(shaped(listing_of(asked) if what == "places" else asked), text, None)
 
 
 def _fits(places: bytes | Fault, page: bytes | Fault) -> bool:

@@ -1,55 +1,53 @@
 "use strict";
 // Features of GeoJSON with the columns of docs/COLUMNS.md, as the server gives them of many references: to the letter.
 //
-//   featureLine(line, network, judging, sources)      the lines about a record (RFC 8142), each with the sign in front and its end. `line` is
-//                                               that of `olr batch places`, asked with the `longList` of `tables.py`, or of `olr batch match`
-//   featuresOfPlaces({ record, key, fault, found, candidates }, network, sources)   features of an answer that was judged: `found` is what
-//                                               `judged` gives
-//   featuresOfPage({ record, key, fault, page, candidates }, network, sources)      features of an answer to `match`
-//   featureText(feature)                        a feature as a text
+//   featureLine(line, judging, sources)      the lines about a record (RFC 8142), each with the sign in front and its end. `line` is that of
+//                                      `olr batch places`, asked with the `longList` of `tables.py`, or of `olr batch match`: with shapes
+//   featuresOfPlaces({ record, key, fault, found, candidates }, sources)   features of an answer that was judged: `found` is what `judged` gives
+//   featuresOfPage({ record, key, fault, page, candidates }, sources)      features of an answer to `match`
+//   featureText(feature)                     a feature as a text
 //
 // Without `record` the features have no columns of a message. `candidates` is how many all points have together, if that is known, and `sources`
 // those of sources.js, a Map from ids of lines to { source, name }, or null. Numbers are those of Python: columns of FLOATS have a point.
 
-const MOST_ANSWER = 1 << 20;
-const DIGITS_OF_DEGREES = 7;
+const MOST_ANSWER = 4 << 20;
 const BETWEEN_IDS = ";";
 const BEFORE_LINE = "\x1e";
 const FLOATS = new Set("probability none_of_these map_differs map_differs_low map_differs_high ends_m from_m to_m outer_m inner_m".split(" "));
 const NO_PART = { part: null, lines: null, sources: null, names: null, from_m: null, to_m: null, outer_m: null, inner_m: null };
 
-function featureLine(line, network, judging, sources = null) {
+function featureLine(line, judging, sources = null) {
   const { answer, fault: own, key, record } = exactJson(line);
   const size = line.lastIndexOf(',"fault":') - '{"answer":'.length;
   const fault = own ?? (size > MOST_ANSWER ? "AnswerTooLarge" : null);
   const about = { record, key, fault };
   const isPage = fault === null && answer.matchings !== undefined;
   const found = fault === null && !isPage ? judged(answer, judging) : null;
-  const features = isPage ? featuresOfPage({ ...about, page: answer }, network, sources) : featuresOfPlaces({ ...about, found }, network, sources);
+  const features = isPage ? featuresOfPage({ ...about, page: answer }, sources) : featuresOfPlaces({ ...about, found }, sources);
   return features.map((feature) => `${BEFORE_LINE}${featureText(feature)}\n`).join("");
 }
 
-function featuresOfPlaces({ record, key, fault = null, found = null, candidates = null }, network, sources = null) {
+function featuresOfPlaces({ record, key, fault = null, found = null, candidates = null }, sources = null) {
   const about = { record, key, candidates, fault };
-  if (fault !== null) return [featureOf({ ...about, verdict: "fault" }, network, sources)];
+  if (fault !== null) return [featureOf({ ...about, verdict: "fault" }, sources)];
   const shared = { ...about, verdict: found.verdict, margin: found.margin };
-  if (!found.places.length) return [featureOf(shared, network, sources)];
+  if (!found.places.length) return [featureOf(shared, sources)];
   return found.places.map((place) => {
     const { gap, matching, members } = place.place;
     const row = { ...shared, likely: place.likely, rank: place.rank, gap, matching, members };
     const { probability, ends, turnsBack, reasons } = place;
     const ofPlace = { probability: shownProbability(probability), ends_m: rounded(ends, 1), turns_back: Number(turnsBack), reasons: reasons || null };
-    return featureOf({ ...row, ...ofPlace, ...(place.likely === 1 ? ofFirst(found) : {}) }, network, sources);
+    return featureOf({ ...row, ...ofPlace, ...(place.likely === 1 ? ofFirst(found) : {}) }, sources);
   });
 }
 
-function featuresOfPage({ record, key, fault = null, page = null, candidates = null }, network, sources = null) {
+function featuresOfPage({ record, key, fault = null, page = null, candidates = null }, sources = null) {
   const about = { record, key, candidates, fault };
-  if (fault !== null) return [featureOf({ ...about, verdict: "fault" }, network, sources)];
+  if (fault !== null) return [featureOf({ ...about, verdict: "fault" }, sources)];
   const { matchings } = page;
-  if (!matchings.length) return [featureOf({ ...about, verdict: "none" }, network, sources)];
+  if (!matchings.length) return [featureOf({ ...about, verdict: "none" }, sources)];
   const rowOfMatching = (matching, index) => ({ ...about, verdict: "match", rank: index + 1, gap: matching.total - matchings[0].total, matching });
-  return matchings.map((matching, index) => featureOf(rowOfMatching(matching, index), network, sources));
+  return matchings.map((matching, index) => featureOf(rowOfMatching(matching, index), sources));
 }
 
 const shownProbability = (value) => (value === null || value === undefined ? null : rounded(value, 3));
@@ -62,11 +60,11 @@ function ofFirst({ noneOfThese, mapDiffers }) {
 }
 
 // A feature with all columns, in their order.
-function featureOf(row, network, sources) {
+function featureOf(row, sources) {
   const { matching = null } = row;
   const cell = (name) => row[name] ?? null;
   const penalties = (parts) => (matching === null ? null : parts.reduce((sum, { penalty }) => sum + penalty, 0));
-  const { part, geometry } = matching === null ? { part: NO_PART, geometry: null } : partOf(matching, network, sources);
+  const { part, geometry } = matching === null ? { part: NO_PART, geometry: null } : partOf(matching, sources);
   const properties = {
     ...(row.record === undefined ? {} : { record: row.record, key: cell("key") }),
     likely: cell("likely"),
@@ -95,7 +93,7 @@ function featureOf(row, network, sources) {
 }
 
 // What a matching covers, and its geometry: the outer part, and of a point along a line what lies between its two positions.
-function partOf(matching, network, sources) {
+function partOf(matching, sources) {
   const isPoint = (matching.earliest ?? null) !== null;
   const route = matching.route.map(pieceOf);
   const [earliest, latest] = isPoint ? [matching.earliest, matching.latest].map(placeOnLineOf) : [null, null];
@@ -116,18 +114,13 @@ function partOf(matching, network, sources) {
     outer_m: length(pieces),
     inner_m: isPoint ? null : length(inner),
   };
-  const points = isPoint ? [pointHalfway(route, earliest, latest, network)] : network.path(pieces);
-  const coordinates = points.map(([lat, lon]) => [roundedDegrees(lon), roundedDegrees(lat)]);
-  if (!coordinates.length) return { part, geometry: null };
-  return { part, geometry: coordinates.length === 1 ? { type: "Point", coordinates: coordinates[0] } : { type: "LineString", coordinates } };
+  return { part, geometry: isPoint ? pointAt(matching.spot.middle) : lineAlong(matching.shape.outer) };
 }
 
-const roundedDegrees = (degrees) => roundHalfEven(degrees * 10 ** DIGITS_OF_DEGREES) / 10 ** DIGITS_OF_DEGREES;
-
-function pointHalfway(route, earliest, latest, network) {
-  const { line, at } = halfwayPlace(route, earliest, latest);
-  return network.pointAt(line, at);
-}
+// Geometries of the program's spots and shapes, which are in microdegrees.
+const degreesOf = (spot) => spot.map((microdegrees) => microdegrees / 1e6);
+const pointAt = (spot) => ({ type: "Point", coordinates: degreesOf(spot) });
+const lineAlong = (shape) => shape && { type: "LineString", coordinates: shape.map(degreesOf) };
 
 // Words in a row, of which one that several have is there once: those that aren't there don't count.
 function withoutRepeats(words) {

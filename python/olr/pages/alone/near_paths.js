@@ -61,7 +61,7 @@ function nearPaths(matching, reference, streets, lowest) {
 
 // The pieces of each leg: the route of a matching, cut by the lengths of its legs.
 function legsOf(matching) {
-  const left = piecesOrNull(matching.route).reverse();
+  const left = matching.route.map(pieceOf).reverse();
   return matching.legs.map((leg) => {
     const pieces = [];
     let missing = leg.length;

@@ -4,9 +4,9 @@
 //   const scene = sceneOf({ reference, show, candidates, places, page, why, network, streets, judgement, confidence, note, numbers, mapName,
 //     tiles, tables });
 //
-// `reference` is its text, and `show` what it says. `candidates`, `places`, `page` (of `match`) and `why` are the program's answers, as
-// `exactJson` reads them, or else the texts of faults; `places` was asked with the `longList` of `tables`, and `why` is null where it fits somewhere
-// (`fitsSomewhere`). `streets` are those of `Streets.of(network)`, which are made once. `judgement` is that of the places,
+// `reference` is its text, and `show` what it says. `candidates`, `places`, `page` (of `match`) and `why` are the program's answers with shapes,
+// as `exactJson` reads them, or else the texts of faults; `places` was asked with the `longList` of `tables`, and `why` is null where it fits
+// somewhere (`fitsSomewhere`). `streets` are those of `Streets.of(network)`, which are made once. `judgement` is that of the places,
 // as `judging.js` has it, or null if `places` is a fault; by `confidence`, which is null where there are no probabilities: then `note` says
 // why, or is an empty text. `numbers` are all tolerances and the numbers of `places`, by the names of options: what was asked for, not the
 // long list. `mapName` is the name of the map's folder in commands, or null. `tables` are those of `tables.py`.
@@ -27,10 +27,10 @@ function sceneOf(given) {
     probability: [],
     looking: "",
   };
-  if (!isFault(given.candidates)) scene.candidates = given.candidates.points.map((point) => rankedCandidates(point, network));
-  if (!isFault(given.places) && !isFault(page)) addPlaces(scene, given.judgement, page, network, confidence);
+  if (!isFault(given.candidates)) scene.candidates = given.candidates.points.map(rankedCandidates);
+  if (!isFault(given.places) && !isFault(page)) addPlaces(scene, given.judgement, page, confidence);
   else scene.verdict.text = faultSentence(isFault(given.places) ? given.places : page, tables);
-  if ((why ?? null) !== null) scene.why = whyOfScene(why, network, tables);
+  if ((why ?? null) !== null) scene.why = whyOfScene(why, tables);
   Object.assign(scene, notesOf(firstMatching(scene, given), show, network, streets, numbers.lowest));
   Object.assign(scene, linesAround(network, boxOf(scene)));
   scene.command = commandText(scene.why === null ? "places" : "why", scene.reference, mapName, { ...numbers, ...tables.longList }, tables);
@@ -51,17 +51,17 @@ function faultSentence(text, tables) {
 }
 
 // The verdict, the probabilities and the entries.
-function addPlaces(scene, judgement, page, network, confidence) {
+function addPlaces(scene, judgement, page, confidence) {
   scene.verdict = { word: judgement.verdict, text: verdictText(judgement.verdict, judgement.margin) };
   if (confidence !== null && judgement.places.length) scene.probability = probabilityTexts(judgement, confidence);
   if (judgement.isCutOff) scene.looking = CUT_OFF_TEXT;
-  scene.entries = entriesOf(judgement.places, page, network);
+  scene.entries = entriesOf(judgement.places, page);
 }
 
 // The points of a reference. The direction at the last one is that back along the road.
 function pointsOfScene(show) {
   return show.points.map((point) => ({
-    spot: [point.lat / 1e6, point.lon / 1e6],
+    spot: spotDrawn([point.lon, point.lat]),
     direction: [point.sector * SECTOR_DEGREES, (point.sector + 1) * SECTOR_DEGREES],
     text: pointText(point),
     leg: legText(point),
@@ -69,16 +69,16 @@ function pointsOfScene(show) {
 }
 
 // The candidates of a point.
-function rankedCandidates(point, network) {
-  return point.map((one, index) => ({ rank: index + 1, line: one.line, at: one.at, penalty: one.penalty, spot: spotOf(one, network) }));
+function rankedCandidates(point) {
+  return point.map((one, index) => ({ rank: index + 1, line: one.line, at: one.at, penalty: one.penalty, spot: spotDrawn(one.spot) }));
 }
 
 // The places, the likeliest one first, and then those of the first matchings that don't open one.
-function entriesOf(places, page, network) {
+function entriesOf(places, page) {
   const entries = places.map((one) => {
     const { matching, members, gap } = one.place;
     return {
-      ...entryOf(matching, network),
+      ...entryOf(matching),
       title: `Place ${one.likely}`,
       gap,
       members: members === 1 ? "1 matching" : `${members} matchings`,
@@ -91,36 +91,32 @@ function entriesOf(places, page, network) {
   page.matchings.forEach((matching, index) => {
     if (openers.has(matching.cursor)) return;
     const gap = matching.total - page.matchings[0].total;
-    entries.push({
-      ...entryOf(matching, network), title: `Matching ${index + 1}`, gap, members: null, probability: "", facts: [], reasons: "",
-    });
+    entries.push({ ...entryOf(matching), title: `Matching ${index + 1}`, gap, members: null, probability: "", facts: [], reasons: "" });
   });
   return entries;
 }
 
 // A matching with its geometries.
-function entryOf(matching, network) {
-  const [route, outer, inner] = [matching.route, matching.outer, matching.inner].map(piecesOrNull);
-  const path = (pieces) => pieces && pathOf(network.path(pieces));
+function entryOf(matching) {
+  const { outer = null, route, shape, spot = null } = matching;
   const entry = {
     cursor: matching.cursor,
     total: matching.total,
     ranks: matching.cursor.split(":")[1].split(".").map(Number),
     legs: legsText(matching.legs),
-    lines: idsText(route.map((piece) => piece.line)),
-    route: path(route),
-    outer: path(outer),
-    inner: path(inner),
+    lines: idsText(route.map(([line]) => line)),
+    route: pathDrawn(shape.route),
+    outer: pathDrawn(shape.outer),
+    inner: pathDrawn(shape.inner),
     spot: null,
     ends: [],
     length: "",
   };
-  if (matching.earliest && matching.latest) {
-    const ends = [matching.earliest, matching.latest].map(placeOnLineOf);
-    entry.spot = spotOf(halfwayPlace(route, ...ends), network);
-    entry.ends = ends.map((end) => spotOf(end, network));
-  } else if (outer) {
-    entry.length = metresText(lengthOfPieces(outer));
+  if (spot !== null) {
+    entry.spot = spotDrawn(spot.middle);
+    entry.ends = [spot.earliest, spot.latest].map(spotDrawn);
+  } else if (outer !== null) {
+    entry.length = metresText(lengthOfPieces(outer.map(pieceOf)));
   }
   return entry;
 }
@@ -132,19 +128,24 @@ function idsText(lines) {
 }
 
 // Why nothing fits, and the lines near the points.
-function whyOfScene(why, network, tables) {
+function whyOfScene(why, tables) {
   if (isFault(why)) return { texts: [faultSentence(why, tables)], remedies: [], near: [] };
   const lines = why.points.flatMap((point) => point.nearest);
   return {
     texts: whyTexts(why),
     remedies: why.remedies.map(remedyText),
-    near: lines.map((line) => ({ line: line.line, not: line.not, spot: spotOf(line, network) })),
+    near: lines.map((line) => ({ line: line.line, not: line.not, spot: spotDrawn(line.spot) })),
   };
 }
 
-// Where a place on a line is.
-function spotOf({ line, at }, network) {
-  return pathOf([network.pointAt(line, at)])[0];
+// A spot of the program, its longitude and its latitude in microdegrees, as it is drawn.
+function spotDrawn([lon, lat]) {
+  return [lat / 1e6, lon / 1e6];
+}
+
+// The spots of a shape as they are drawn; null where there is none.
+function pathDrawn(shape) {
+  return (shape ?? null) === null ? null : shape.map(spotDrawn);
 }
 
 // The matching of the first entry, if there is one.

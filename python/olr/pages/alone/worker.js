@@ -82,7 +82,7 @@ function sceneAt(options) {
   const tolerances = Object.fromEntries(Object.keys(questions.tolerances).map((name) => [name, numbers[name]]));
   const text = recordText(ref);
   const ask = (what, others = {}) => {
-    const { text: answer, fault } = program.answer(what, { ...tolerances, ...others }, text);
+    const { text: answer, fault } = program.answer(what, { ...tolerances, ...others, shape: true }, text);
     return fault === null ? exactJson(answer) : fault;
   };
   const show = exactJson(throwing(program.show(text)));
@@ -109,10 +109,10 @@ async function recordsOf(body) {
 }
 
 // The lines of the program about records, a piece at a time.
-async function* answered(body, numbers, from) {
+async function* answered(body, settings, from) {
   const records = await recordsOf(body);
   for (let begin = from * RECORDS_OF_PIECE; begin < records.length; begin += RECORDS_OF_PIECE) {
-    yield known.program.lines("places", listing(numbers), records.slice(begin, begin + RECORDS_OF_PIECE));
+    yield known.program.lines("places", listing(settings), records.slice(begin, begin + RECORDS_OF_PIECE));
   }
 }
 
@@ -123,8 +123,8 @@ async function* rowsOf(body, numbers, from) {
 
 async function* featuresOf(body, numbers, from) {
   const { judging } = judgingBy(known.confidence, numbers);
-  for await (const lines of answered(body, numbers, from)) {
-    yield lines.map((line) => featureLine(line, known.network, judging, known.sources)).join("");
+  for await (const lines of answered(body, { ...numbers, shape: true }, from)) {
+    yield lines.map((line) => featureLine(line, judging, known.sources)).join("");
   }
 }
 

@@ -1,7 +1,7 @@
 """Messages as rows of the table of references, with what the map shows of them, and the scene of each one's page."""
 
 import numpy as np
-from collections.abc import Iterator, Mapping, Sequence
+from collections.abc import Mapping, Sequence
 from itertools import islice
 from typing import Any, NamedTuple
 
@@ -9,7 +9,7 @@ from olr.client.map_client import Map
 from olr.confidence.judged import Judged, Judging, judged
 from olr.geometry.network import Network
 from olr.matching.columns import rounded
-from olr.model.answers import Candidates, Page, Places, Why
+from olr.model.answers import Why
 from olr.model.fault import Fault
 from olr.model.reference import read_reference
 from olr.pages.report.sample import Drawn
@@ -57,7 +57,7 @@ def rows_of(
     messages = iter(watched(drawn, "references drawn", len(drawn)))
     while chunk := list(islice(messages, CHUNK)):
         answers = _answers_about(chunk, asked, numbers)
-        made = _scenes(answers, network, judging)
+        made = _scenes(answers, judging)
         lines.add(network, [scene for scene, _ in made if scene is not None])
         for one, answered, (scene, judgement) in zip(chunk, answers, made):
             if answered is not None and scene is not None:
@@ -71,15 +71,13 @@ def rows_of(
 
 
 def _scenes(
-    answers: Sequence[Answered | None], network: Network, judging: Judging
+    answers: Sequence[Answered | None], judging: Judging
 ) -> list[tuple[Scene | None, Judged | None]]:
     """The scene of each answer, and how its places are judged; None where a text is no reference."""
     known = [one for one in answers if one is not None]
-    # The lines of a store are read at once.
-    part = network.having(line for one in known for line in _lines_of(one))
     judgements = judged([one.places for one in known], judging)
     found = (
-        (scene_of_answers(one, part, judgement, judging.confidence), judgement)
+        (scene_of_answers(one, judgement, judging.confidence), judgement)
         for one, judgement in zip(known, judgements)
     )
     return [(None, None) if one is None else next(found) for one in answers]
@@ -97,18 +95,6 @@ def _answers_about(
     ]
     answers = iter(answers_about(known, asked, **numbers))
     return [None if reference is None else next(answers) for reference in references]
-
-
-def _lines_of(answered: Answered) -> Iterator[int]:
-    """The lines of an answer, by their ids."""
-    if isinstance(answered.candidates, Candidates):
-        yield from (one.line for point in answered.candidates.points for one in point)
-    if isinstance(answered.places, Places):
-        yield from (it.line for one in answered.places.places for it in one.matching.route)
-    if isinstance(answered.page, Page):
-        yield from (it.line for one in answered.page.matchings for it in one.route)
-    if isinstance(answered.why, Why):
-        yield from (line.line for point in answered.why.points for line in point.nearest)
 
 
 class _Lines:

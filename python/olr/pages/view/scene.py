@@ -1,6 +1,5 @@
 """All that a page draws, as data for its script. Positions are `[latitude, longitude]` in degrees."""
 
-import numpy as np
 from collections.abc import Iterator, Mapping, Sequence
 from functools import partial
 from typing import Any, NamedTuple
@@ -10,22 +9,21 @@ from olr.client.map_client import Map
 from olr.confidence.confidence import Confidence
 from olr.confidence.judged import Judged, JudgedPlace, Judging, judged
 from olr.confidence.shown import Shown
-from olr.geometry.network import Network, OnLine, middle
 from olr.model.answers import Candidate, Candidates, Matching, Page, Places, Reference, Why
 from olr.model.asked_with import command_text
 from olr.model.fault import Fault
-from olr.model.pieces import Pieces
+from olr.model.pieces import Spot
 from olr.model.questions import What, listing
 from olr.near_paths.notes import streets_of
 from olr.pages.view import sentences
 from olr.pages.view.notes import notes_of
-from olr.pages.view.surroundings import Scene, Surroundings, box_of, network_around, path_of
+from olr.pages.view.surroundings import Scene, Surroundings, box_of, network_around
 
 MOST_IDS = 6
 
 
 class Answered(NamedTuple):
-    """A reference with what the program answers about it."""
+    """A reference with what the program answers about it, with shapes."""
 
     text: str
     reference: Reference
@@ -42,13 +40,12 @@ def scene_of(text: str, asked: Map, confidence: Confidence | None = None, **numb
     files change meanwhile."""
     judging = Judging(confidence, Shown.of(numbers))
     reference = decode(text, asked.program)
-    network = asked.network()
     (answered,) = answers_about([(text, reference)], asked, **numbers)
     if isinstance(answered.why, Fault):
         raise answered.why
     (judgement,) = judged([answered.places], judging)
-    scene = scene_of_answers(answered, network, judgement, confidence)
-    lowest = asked.tolerances["lowest"]
+    scene = scene_of_answers(answered, judgement, confidence)
+    network, lowest = asked.network(), asked.tolerances["lowest"]
     scene |= notes_of(scene, answered, network, lowest, partial(streets_of, asked))
     box = box_of(scene)
     scene["lines"], scene["cut"] = Surroundings(network_around(network, [box])).lines(box)
@@ -62,12 +59,12 @@ def answers_about(
     doesn't depend on its length. Raises `Fault` for a number that is out of its range, and `MapRefused` if the map's files change
     meanwhile."""
     texts = [text for text, _ in references]
-    candidates = asked.answers("candidates", texts)
-    places: Iterator[Any] = asked.answers("places", texts, **listing(numbers))
-    pages = asked.answers("match", texts)
+    candidates = asked.answers("candidates", texts, shape=True)
+    places: Iterator[Any] = asked.answers("places", texts, **listing(numbers), shape=True)
+    pages = asked.answers("match", texts, shape=True)
     answers = zip(references, candidates, places, pages, strict=True)
     found = [Answered(*about, one, two, three) for about, one, two, three in answers]
-    reasons = asked.answers("why", (one.text for one in found if not fits(one)))
+    reasons = asked.answers("why", (one.text for one in found if not fits(one)), shape=True)
     return [one if fits(one) else one._replace(why=next(reasons)) for one in found]
 
 
@@ -80,14 +77,10 @@ def fits(answered: Answered) -> bool:
 
 
 def scene_of_answers(
-    answered: Answered,
-    network: Network,
-    judgement: Judged | None,
-    confidence: Confidence | None = None,
+    answered: Answered, judgement: Judged | None, confidence: Confidence | None = None
 ) -> Scene:
     """The scene of a reference that was asked about, without the lines around. `judgement` is that of its places, by a confidence if there
-    is one. Raises `MapRefused` if the network is of another version of the map, and `ToolError` if it lacks a line of an answer.
-    """
+    is one."""
     reference, candidates, places, page = answered[1:5]
     scene: Scene = {
         "reference": answered.text.strip(),
@@ -103,7 +96,7 @@ def scene_of_answers(
         "looking": "",
     }
     if isinstance(candidates, Candidates):
-        scene["candidates"] = [_ranked(point, network) for point in candidates.points]
+        scene["candidates"] = list(map(_ranked, candidates.points))
     if isinstance(places, Places) and isinstance(page, Page):
         assert judgement is not None
         scene["verdict"] = {
@@ -114,12 +107,12 @@ def scene_of_answers(
             scene["probability"] = sentences.probability_texts(judgement, confidence)
         if judgement.is_cut_off:
             scene["looking"] = sentences.CUT_OFF
-        scene["entries"] = _entries(judgement.places, page, network)
+        scene["entries"] = _entries(judgement.places, page)
     else:
         fault = next(one for one in (places, page) if isinstance(one, Fault))
         scene["verdict"]["text"] = f"{fault.text}: {fault.meaning}."
     if answered.why is not None:
-        scene["why"] = _why(answered.why, network)
+        scene["why"] = _why(answered.why)
     return scene
 
 
@@ -135,7 +128,7 @@ def _points(reference: Reference) -> list[Scene]:
     """The points of a reference. The direction at the last one is that back along the road."""
     return [
         {
-            "spot": [point.lat / 1e6, point.lon / 1e6],
+            "spot": spot_drawn(Spot(point.lon, point.lat)),
             "direction": [
                 point.sector * sentences.SECTOR,
                 (point.sector + 1) * sentences.SECTOR,
@@ -147,20 +140,26 @@ def _points(reference: Reference) -> list[Scene]:
     ]
 
 
-def _ranked(candidates: Sequence[Candidate], network: Network) -> list[Scene]:
+def _ranked(candidates: Sequence[Candidate]) -> list[Scene]:
     """The candidates of a point."""
     return [
-        {"rank": rank, "line": one.line, "at": one.at, "penalty": one.penalty, "spot": spot}
-        for rank, (one, spot) in enumerate(zip(candidates, _spots(candidates, network)), 1)
+        {
+            "rank": rank,
+            "line": one.line,
+            "at": one.at,
+            "penalty": one.penalty,
+            "spot": spot_drawn(one.spot),
+        }
+        for rank, one in enumerate(candidates, 1)
     ]
 
 
-def _entries(places: Sequence[JudgedPlace], page: Page, network: Network) -> list[Scene]:
+def _entries(places: Sequence[JudgedPlace], page: Page) -> list[Scene]:
     """The places, the likeliest one first, and then those of the first matchings that don't open one."""
     entries = []
     for one in places:
         members = one.place.members
-        entry = _entry(one.place.matching, network) | {
+        entry = _entry(one.place.matching) | {
             "title": f"Place {one.likely}",
             "gap": one.place.gap,
             "members": "1 matching" if members == 1 else f"{members} matchings",
@@ -172,7 +171,7 @@ def _entries(places: Sequence[JudgedPlace], page: Page, network: Network) -> lis
     openers = {one.place.matching.cursor for one in places}
     for number, matching in enumerate(page.matchings, 1):
         if matching.cursor not in openers:
-            entry = _entry(matching, network) | {
+            entry = _entry(matching) | {
                 "title": f"Matching {number}",
                 "gap": matching.total - page.matchings[0].total,
                 "members": None,
@@ -184,45 +183,29 @@ def _entries(places: Sequence[JudgedPlace], page: Page, network: Network) -> lis
     return entries
 
 
-def _entry(matching: Matching, network: Network) -> Scene:
+def _entry(matching: Matching) -> Scene:
     """A matching with its geometries."""
-    paths = _Paths(network)
+    shape, spot = matching.shape, matching.spot
+    assert shape is not None
     entry: Scene = {
         "cursor": matching.cursor,
         "total": matching.total,
         "ranks": [int(rank) for rank in matching.cursor.split(":")[1].split(".")],
         "legs": sentences.legs_text(matching.legs),
         "lines": _ids([piece.line for piece in matching.route]),
-        "route": paths.of(matching.route),
-        "outer": paths.of(matching.outer),
-        "inner": paths.of(matching.inner),
+        "route": path_drawn(shape.route),
+        "outer": path_drawn(shape.outer),
+        "inner": path_drawn(shape.inner),
         "spot": None,
         "ends": [],
         "length": "",
     }
-    if matching.earliest is not None and matching.latest is not None:
-        ends = [matching.earliest, matching.latest]
-        halfway = middle(matching.route, *ends)
-        entry["spot"], *entry["ends"] = _spots([halfway, *ends], network)
+    if spot is not None:
+        entry["spot"] = spot_drawn(spot.middle)
+        entry["ends"] = [spot_drawn(spot.earliest), spot_drawn(spot.latest)]
     elif matching.outer is not None:
         entry["length"] = sentences.metres(matching.outer.length())
     return entry
-
-
-class _Paths:
-    """The geometries of pieces. Those of a matching are often the same ones."""
-
-    def __init__(self, network: Network) -> None:
-        self._network = network
-        self._found: dict[Pieces, list[list[float]]] = {}
-
-    def of(self, pieces: Pieces | None) -> list[list[float]] | None:
-        """The geometry of pieces, if there are any."""
-        if pieces is None:
-            return None
-        if pieces not in self._found:
-            self._found[pieces] = path_of(self._network.path(pieces))
-        return self._found[pieces]
 
 
 def _ids(lines: list[int]) -> str:
@@ -231,23 +214,28 @@ def _ids(lines: list[int]) -> str:
     return " ".join(map(str, lines[:MOST_IDS])) + more
 
 
-def _why(why: Why | Fault, network: Network) -> Scene:
+def _why(why: Why | Fault) -> Scene:
     """Why nothing fits, and the lines near the points."""
     if isinstance(why, Fault):
         return {"texts": [f"{why.text}: {why.meaning}."], "remedies": [], "near": []}
-    lines = [line for point in why.points for line in point.nearest]
-    near = [
-        {"line": line.line, "not": list(line.not_), "spot": spot}
-        for line, spot in zip(lines, _spots(lines, network))
-    ]
     return {
         "texts": sentences.why_texts(why),
         "remedies": [sentences.remedy_text(remedy) for remedy in why.remedies],
-        "near": near,
+        "near": [
+            {"line": line.line, "not": list(line.not_), "spot": spot_drawn(line.spot)}
+            for point in why.points
+            for line in point.nearest
+        ],
     }
 
 
-def _spots(places: Sequence[OnLine], network: Network) -> list[list[float]]:
-    """Where places on lines are."""
-    rows = np.array([(one.line, one.at) for one in places], dtype=np.int64)
-    return path_of(network.points_at(rows)) if len(rows) else []
+def spot_drawn(spot: Spot | None) -> list[float]:
+    """A spot of an answer that was asked with shapes, as it is drawn."""
+    assert spot is not None
+    lon, lat = spot
+    return [lat / 1e6, lon / 1e6]
+
+
+def path_drawn(shape: Sequence[Spot] | None) -> list[list[float]] | None:
+    """The spots of a shape as they are drawn, if there is one."""
+    return None if shape is None else list(map(spot_drawn, shape))
