@@ -10,13 +10,19 @@ from typing import Any
 from alone import TRIED, Scripts, draw_two_ways, text_of
 from browser import Browser
 from drawn_maps import Files, damage, draw_files
+from olr.arrays import Floats
 from olr.errors import ToolError
 from olr.geometry.network import Network
 from olr.model.columns import What, joined_columns, read_columns
 from olr.model.map_folder import read_map
-from olr.pages.view.surroundings import Box, Surroundings, path_of
 
 DAMAGED = 150
+
+
+def path_of(points: Floats) -> list[list[float]]:
+    """Points as `network.path` has them."""
+    path: list[list[float]] = np.round(points[:, ::-1], 7).tolist()
+    return path
 
 
 @pytest.fixture(scope="module")
@@ -61,12 +67,6 @@ def test_lines(network: Network, scripts: Scripts) -> None:
     assert network.node_id[end].tolist() == network.end.tolist() and nodes == len(network.node_id)
     ordered = scripts.value("[...network.byId].map((index) => network.ids[index])")
     assert list(map(int, ordered)) == sorted(network.line_id.tolist())
-    polylines = scripts.value("network.ids.map((_, index) => network.polyline(index))")
-    wanted = [
-        network.points[first : first + size, ::-1].tolist()
-        for first, size in zip(network.first, network.sizes)
-    ]
-    assert polylines == wanted
     assert scripts.value("ids.map((id) => network.indexOf(id))", ids=ids) == list(range(count))
     assert (
         scripts.value(
@@ -116,29 +116,7 @@ def test_what_is_not_on_the_map(network: Network, scripts: Scripts) -> None:
         assert scripts.tried("network.path([[id, 0, at]])", id=str(id), at=at) == wanted
 
 
-def test_lines_of_boxes_and_nodes(network: Network, scripts: Scripts) -> None:
-    draws = random.Random(4)
-    surroundings = Surroundings(network)
-    low, high = network.points.min(axis=0), network.points.max(axis=0)
-    boxes = [
-        sorted(draws.uniform(low[axis], high[axis]) for _ in range(2))
-        for _ in range(40)
-        for axis in (1, 0)
-    ]
-    # The corner of a box may be the end of a line.
-    west, south = network.points[0].tolist()
-    boxes += [[south, south], [west, west]]
-    found = scripts.value(
-        "boxes.map(([lats, lons]) => network.linesIn({ low: [lats[0], lons[0]], high: [lats[1], lons[1]] }))",
-        boxes=list(zip(boxes[::2], boxes[1::2])),
-    )
-    wanted = [
-        surroundings.within(
-            Box(np.array([lats[0], lons[0]]), np.array([lats[1], lons[1]]))
-        ).tolist()
-        for lats, lons in zip(boxes[::2], boxes[1::2])
-    ]
-    assert found == wanted and any(wanted)
+def test_lines_of_nodes(network: Network, scripts: Scripts) -> None:
     of_nodes = scripts.value(
         "Array.from({ length: network.nodes }, (_, node) => [...network.linesOf(node)])"
     )
@@ -261,6 +239,4 @@ def test_a_map_that_lacks_a_node(scripts: Scripts, tmp_path: Path) -> None:
         "ToolError: this page/lines.csv doesn't begin"
     )
     empty = {"nodes": "id,lon,lat", "lines": "id,from,to,class,form,length,shape\n"}
-    assert (
-        scripts.value("Network.of(texts).linesIn({ low: [0, 0], high: [1, 1] })", texts=empty) == []
-    )
+    assert scripts.value("Network.of(texts).count", texts=empty) == 0

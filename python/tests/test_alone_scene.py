@@ -28,7 +28,7 @@ from olr.serving import scene_texts
 from olr.serving.ground import FolderGround
 from olr.serving.judging import listing_of, shaped
 from olr.serving.queries import asked_of
-from olr.serving.tasks import JudgedBy, SceneTask
+from olr.serving.tasks import AroundTask, JudgedBy, SceneTask
 from region_maps import EAST, WEST, Point, hostile_map, hostile_text, text_of
 from test_near_paths import Block, block
 
@@ -41,10 +41,11 @@ cases.map((one) => {
   const fits = fitsSomewhere(places, page);
   const answers = { show: exactJson(one.show), candidates, places, page, why: fits ? null : why, judgement };
   const { confidence } = judging;
-  return { fits, scene: sceneOf({ ...one, ...answers, confidence, note, network, streets: Streets.of(network), tables }) };
+  const scene = sceneOf({ ...one, ...answers, confidence, note, network, streets: Streets.of(network), tables });
+  return { fits, box: boxOf(scene), scene: Object.assign(scene, linesDrawn(exactJson(one.lines))) };
 })
 """
-"""Scenes of what the program answers, each with whether there is a place."""
+"""Scenes of what the program answers, each with whether there is a place, and the box around it."""
 KIOSK = "KwVGnCN20HPDBwFCATFjT5Y="
 Json = dict[str, Any]
 
@@ -130,8 +131,19 @@ class MapAsked(NamedTuple):
             "numbers": judged_by.asked.numbers(),
             "mapName": map_name,
         }
-        scene = json.loads(scene_texts.text_of(task, self.ground))
-        return given, {"fits": task.why is None, "scene": with_texts(scene)}
+        first, scene = scene_texts.text_of(task, self.ground).split(b"\n")
+        box = json.loads(first)
+        lines = self.lines_within(box)
+        whole = json.loads(scene_texts.with_surroundings(AroundTask(scene, lines)))
+        expected = {"fits": task.why is None, "box": box, "scene": with_texts(whole)}
+        return given | {"lines": lines.decode()}, expected
+
+    def lines_within(self, box: Sequence[int]) -> bytes:
+        """What the program answers about the lines in a box."""
+        words = ("--box", ",".join(map(str, box)), "--shape", "--map", self.folder)
+        ended = self.program.run("lines", *words)
+        assert ended.returncode == 0, ended.stderr
+        return ended.stdout.strip().encode()
 
 
 def with_texts(scene: Json) -> Json:

@@ -1,25 +1,17 @@
 """The page of `olr-tools serve` in Chromium: a reference, options, addresses that are sent on, keys, and a program that hangs."""
 
 import json
-import pytest
 import shlex
 import signal
 from pathlib import Path
 from urllib.parse import quote
 
-import olr
 from asking import said
 from bad_programs import bad_program
 from browser import Browser
 from conftest import Program
-from olr.asking.files import MapFiles
-from olr.geometry.network import Network
 from olr.model.profiles import FEED, tolerances_of
 from olr.model.questions import TOLERANCES
-from olr.pages.view.scene import scene_of
-from olr.pages.view.surroundings import Surroundings, box_of
-from olr.serving import ground
-from olr.serving.tasks import MapVersion
 from page_of_server import (
     AS_PROGRAM,
     MESSAGES,
@@ -320,26 +312,3 @@ def test_tiles_and_a_smaller_limit(
         loaded = page.browser.loaded
         assert loaded and all(one.startswith("http://127.0.0.1:9/") for one in loaded)
         assert not any("Content Security" in text for text in page.browser.errors)
-
-
-def test_boxes_of_lines_are_computed_once(
-    program: Program, folder: Path, monkeypatch: pytest.MonkeyPatch
-) -> None:
-    """For each version of a map, not for each scene."""
-    made: list[Network] = []
-
-    class Counted(Surroundings):
-        def __init__(self, network: Network) -> None:
-            made.append(network)
-            super().__init__(network)
-
-    monkeypatch.setattr(ground, "Surroundings", Counted)
-    with olr.Map.of_folder(folder, program=program.path) as asked:
-        scene = scene_of(ROADWORKS, asked)
-    files = MapFiles.of_folder(folder)
-    map = MapVersion(tuple(files.paths()), files.found())
-    grounds = ground.Grounds()
-    for _ in range(3):
-        box = box_of(scene)
-        assert grounds.of(map).around(box).lines(box) == (scene["lines"], scene["cut"])
-    assert made == [grounds.of(map).network]

@@ -143,7 +143,7 @@ def command(
             by = sure.note or _probable_by(confidence)
             numbers = asking.text() + more
             about = About(name_of(file), old, new, numbers, asking.all_numbers(), by)
-            page = page_of(about, summary, changed, after.network())
+            page = page_of(about, summary, changed, after)
             made.write_text(page, encoding="utf-8")
         if summary_made is not None:
             of_files = {"messages": name_of(file), "new": str(new), "old": str(old)}

@@ -12,10 +12,8 @@ from olr.errors import ToolError, map_changed
 from olr.geometry.network import Network
 from olr.geometry.parts import Polylines
 from olr.model.map_folder import store_of
-from olr.model.road_map import MICRODEGREE
 from olr.model.sources import Sources
 from olr.regions.current import CurrentStore
-from olr.regions.plane import Disc, scale_at
 from olr.regions.scratch import scratch_files
 from olr.regions.store import Store
 
@@ -38,8 +36,8 @@ class PartOfNetwork(Network):
 
 
 class StoreNetwork(Network):
-    """The lines of a store, as a `Network`: `path` and `polylines` are those of any. It has no arrays of the whole map: `having` and
-    `around` give a `Network` of the lines that are asked for. Threads wait for one another."""
+    """The lines of a store, as a `Network`: `path` and `polylines` are those of any. It has no arrays of the whole map: `having` gives a
+    `Network` of the lines that are asked for. Threads wait for one another."""
 
     def __init__(self, path: Path) -> None:
         """Opens a store. Raises `ToolError` if it isn't one, or can't be read."""
@@ -72,22 +70,6 @@ class StoreNetwork(Network):
                 with self._store.reading() as store:
                     self._last = PartOfNetwork(store, wanted)
             return self._last
-
-    def around(self, low: Floats, high: Floats) -> Network:
-        """A network that has the lines within a box, and others near it: `low` has the least latitude and longitude in degrees, `high` the
-        greatest. Raises `ToolError` as `having`."""
-        return self.around_all([(low, high)])
-
-    def around_all(self, boxes: Iterable[tuple[Floats, Floats]]) -> Network:
-        """As `around`, of many boxes at once."""
-        discs = []
-        for low, high in boxes:
-            (lat, lon), (north, east) = (low + high) / 2e-6, (high - low) / 2e-6
-            scale = scale_at(lat)
-            radius = max(north, east * scale / 10_000) * MICRODEGREE
-            discs.append(Disc(lon, lat, radius, scale))
-        with self._asking, self._store.reading() as store:
-            return PartOfNetwork(store, store.lines_meeting(discs))
 
     def to_geodataframe(self, lines: Iterable[int] | None = None) -> "geopandas.GeoDataFrame":
         """As `Network.to_geodataframe`, of the lines that are named. Raises `ToolError` if none are."""

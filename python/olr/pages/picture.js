@@ -260,7 +260,7 @@ function pictureOf({ map: place, panel, tiles = null, onChoose = () => {} }) {
     fill("remedies", items(remedies.length ? remedies : ["no single change of a tolerance, and no map without bans"]));
     fill("points", scene.points.map(pointOf));
     find("offsets").textContent = scene.offsets;
-    find("cut").textContent = scene.cut ? `${scene.cut} lines further out aren't drawn.` : "";
+    find("cut").textContent = scene.cut || scene.more ? `${scene.more ? "More" : scene.cut} lines further out aren't drawn.` : "";
     fillSamples();
   };
 

@@ -7,7 +7,9 @@ from pathlib import Path
 
 from olr.asking.exchange import Asked, record_about
 from olr.asking.files import Version
+from olr.model.box import Box
 from olr.serving.edition import Edition
+from olr.serving.judging import text_within
 from olr.serving.limits import RECORDS_AHEAD, Limits
 from olr.serving.pool import Pool
 from olr.serving.process import Answer
@@ -57,6 +59,10 @@ class FolderMap(Served):
     ) -> Future[Answer]:
         """See `Served`."""
         return self.pool.ask(asked.about(text, *more), is_in_stream)
+
+    def within(self, box: Box) -> Future[Answer]:
+        """See `Served`."""
+        return self.pool.ask(text_within(box))
 
     async def show(self, text: bytes) -> bytes:
         """See `Served`."""

@@ -1,4 +1,4 @@
-"""What answers are made of besides what the program says: the geometries of a map, the lines around a place, and the turns between lines."""
+"""What answers are made of besides what the program says: the nodes and lines of a map, and the turns between these."""
 
 from collections.abc import Mapping
 from contextlib import suppress
@@ -12,7 +12,6 @@ from olr.geometry.store_network import StoreNetwork
 from olr.model.answers import Matching, Reference
 from olr.near_paths.notes import streets_near, streets_of_files
 from olr.near_paths.streets import Streets
-from olr.pages.view.surroundings import Box, Surroundings, network_around
 from olr.serving.tasks import MapVersion
 
 
@@ -22,9 +21,6 @@ class Ground(Protocol):
     @property
     def network(self) -> Network:
         """Its nodes and lines. Raises `ToolError`."""
-
-    def around(self, box: Box) -> Surroundings:
-        """Its lines, at least those in a box. Raises `ToolError`."""
 
     def streets(
         self, tolerances: Mapping[str, int], reference: Reference, matching: Matching
@@ -41,16 +37,11 @@ class FolderGround:
             self.network = Network(files.nodes, files.lines)
         with suppress(ToolError):
             self.network.sources()
-        self._around = Surroundings(self.network)
         self._streets: Streets | ToolError
         try:
             self._streets = streets_of_files(self.network, files)
         except ToolError as error:
             self._streets = error
-
-    def around(self, box: Box) -> Surroundings:
-        """All its lines."""
-        return self._around
 
     def streets(
         self, tolerances: Mapping[str, int], reference: Reference, matching: Matching
@@ -73,10 +64,6 @@ class StoreGround:
         network = StoreNetwork(self._map.files[0])
         network.require_digest(self._map.version.network or "")
         return network
-
-    def around(self, box: Box) -> Surroundings:
-        """Those in the box and near it."""
-        return Surroundings(network_around(self.network, [box]))
 
     def streets(
         self, tolerances: Mapping[str, int], reference: Reference, matching: Matching

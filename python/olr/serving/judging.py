@@ -2,7 +2,8 @@
 what is drawn is asked for with shapes."""
 
 from olr.asking.exchange import Asked
-from olr.model.questions import all_words, listing
+from olr.model.box import Box
+from olr.model.questions import all_words, box_words, listing
 
 SHAPE = "--shape"
 """The word of what is drawn."""
@@ -16,3 +17,8 @@ def listing_of(asked: Asked) -> Asked:
 def shaped(asked: Asked) -> Asked:
     """The same asked with shapes."""
     return asked if SHAPE in asked.words else asked._replace(words=(*asked.words, SHAPE))
+
+
+def text_within(box: Box) -> bytes:
+    """The text of a record that asks about the lines in a box, with shapes."""
+    return " ".join(("lines", *box_words(box), SHAPE)).encode()

@@ -19,7 +19,15 @@ from olr.errors import ToolError
 from olr.serving import feature_texts, row_texts, scene_texts
 from olr.serving.ground import Ground, Grounds, StoreGround
 from olr.serving.limits import MIB, MOST_MADE
-from olr.serving.tasks import MOST_MESSAGE, FeaturesTask, LinesTask, MapVersion, SceneTask, Task
+from olr.serving.tasks import (
+    MOST_MESSAGE,
+    AroundTask,
+    FeaturesTask,
+    LinesTask,
+    MapVersion,
+    SceneTask,
+    Task,
+)
 
 MOST_MEMORY = 128 * MIB
 """Bytes that one process may take besides what it shares. GeoJSON of 1,000 matchings of 24 points on the largest map takes 40 MiB."""
@@ -108,6 +116,8 @@ def _make(task: Task, ground: Ground, file: BufferedRandom) -> None:
         feature_texts.write(task, ground.network, file)
     elif isinstance(task, SceneTask):
         file.write(scene_texts.text_of(task, ground))
+    elif isinstance(task, AroundTask):
+        file.write(scene_texts.with_surroundings(task))
     elif isinstance(task, LinesTask):
         if task.form == "rows":
             file.write(row_texts.lines_of(task.some, task.judged_by))

@@ -8,22 +8,23 @@ from olr.confidence.judged import judged
 from olr.errors import MapRefused
 from olr.model.answers import Answer, Candidates, Matching, Page, Places, Reference, Why
 from olr.model.fault import Fault
-from olr.model.objects import read_answer, reference
+from olr.model.legs_and_lines import Lines
+from olr.model.objects import read_answer, read_any, reference
 from olr.model.questions import What
 from olr.near_paths.streets import Streets
 from olr.pages.view.notes import notes_of
 from olr.pages.view.scene import Answered, add_command, scene_of_answers
-from olr.pages.view.surroundings import box_of
+from olr.pages.view.surroundings import box_of, lines_drawn
 from olr.serving.chosen import chosen_by
 from olr.serving.ground import Ground
-from olr.serving.tasks import SceneTask
+from olr.serving.tasks import AroundTask, SceneTask
 
 Wanted = TypeVar("Wanted", Candidates, Page, Places, Why)
 
 
 def text_of(task: SceneTask, ground: Ground) -> bytes:
-    """The scene of answers, with other paths of the first one, and the lines around. It says why it has no probabilities where it has none.
-    Raises `ToolError`."""
+    """A line with the box around a scene, and the scene of answers, with other paths of the first one. It says why it has no probabilities
+    where it has none. Raises `ToolError`."""
     network, numbers = ground.network, task.judged_by.asked.numbers()
     chosen = chosen_by(task.judged_by)
     answered = _answered(task, network.digest)
@@ -31,13 +32,23 @@ def text_of(task: SceneTask, ground: Ground) -> bytes:
     scene = scene_of_answers(answered, judgement, chosen.judging.confidence)
     streets = partial(streets_for, task, ground)
     scene |= notes_of(scene, answered, network, numbers["lowest"], streets)
-    box = box_of(scene)
-    scene["lines"], scene["cut"] = ground.around(box).lines(box)
     add_command(scene, task.map_name, numbers)
     if chosen.note and scene["entries"]:
         scene["probability"] = [f"{chosen.note[0].upper()}{chosen.note[1:]}."]
     scene["tiles"] = task.tiles
-    return json.dumps(scene, separators=(",", ":"), ensure_ascii=False).encode()
+    return b"%b\n%b" % (_json(box_of(scene)), _json(scene))
+
+
+def with_surroundings(task: AroundTask) -> bytes:
+    """A scene with the lines around it."""
+    lines = (
+        Lines((), True) if isinstance(task.lines, Fault) else read_any("lines", task.lines, None)
+    )
+    return b"%b,%b" % (task.scene[:-1], _json(lines_drawn(lines))[1:])
+
+
+def _json(value: object) -> bytes:
+    return json.dumps(value, separators=(",", ":"), ensure_ascii=False).encode()
 
 
 def _answered(task: SceneTask, digest: str | None) -> Answered:

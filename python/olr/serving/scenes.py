@@ -1,7 +1,9 @@
 """All that a page draws of a reference, as JSON: `olr.pages.view.scene` says what."""
 
+import json
 from typing import IO, NamedTuple
 
+from olr.model.box import Box
 from olr.model.fault import Fault
 from olr.model.profiles import PROFILE
 from olr.model.questions import NUMBERS, TOLERANCES, What, record_text
@@ -10,7 +12,7 @@ from olr.serving.limits import Limits
 from olr.serving.makers import Makers
 from olr.serving.queries import Options, Question, asked_of, reference_of
 from olr.serving.served import Asking, Served, of_one_edition
-from olr.serving.tasks import SceneTask
+from olr.serving.tasks import AroundTask, SceneTask
 
 NO_PLACES, NO_MATCHINGS = b'"places":[]', b'"matchings":[]'
 """What answers have that found nothing."""
@@ -51,7 +53,10 @@ class Scenes(NamedTuple):
                 self.served.map_name,
                 self.tiles,
             )
-            return await self.makers.made(asking.map(), task)
+            with await self.makers.made(asking.map(), task) as file:
+                box, scene = Box(*json.loads(file.readline())), file.read()
+            around = AroundTask(scene, await asking.within(box))
+            return await self.makers.made(asking.map(), around)
 
         return await of_one_edition(self.served, ask)
 

@@ -48,6 +48,7 @@ OF_SCENE: Mapping[str, Json] = {
     "verdict": {"type": "object"},
     "why": {"type": "object", "nullable": True},
     "cut": INTEGER,
+    "more": BOOLEAN,
     "tiles": TEXT | {"nullable": True},
 }
 

@@ -14,6 +14,7 @@ from olr.asking.exchange import Asked
 from olr.asking.files import Version
 from olr.asking.records import Answered
 from olr.errors import MapRefused, ToolError
+from olr.model.box import Box
 from olr.model.fault import Fault
 from olr.serving.bodies import Records, in_order
 from olr.serving.limits import PAGE_ALONE
@@ -93,6 +94,10 @@ class Served(ABC):
         return (await self.ask(asked, text, *more)).or_fault()
 
     @abstractmethod
+    def within(self, box: Box) -> Future[Answer]:
+        """What the program is to answer about the lines in a box, with shapes. See `Pool.ask`."""
+
+    @abstractmethod
     async def show(self, text: bytes) -> bytes:
         """What a reference says, as the program prints it. Raises as `answer`."""
 
@@ -153,6 +158,12 @@ class Asking:
             return await self.answer(question)
         except Fault as fault:
             return fault
+
+    async def within(self, box: Box) -> bytes | Fault:
+        """The JSON of the lines in a box, or why there is none. Raises as `Served.answer` else."""
+        answer = await self._served.within(box)
+        self.versions.add(answer.version)
+        return answer.json if answer.fault is None else Fault(answer.fault)
 
     def map(self) -> MapVersion:
         """The map that the answers are of. Raises `MapRefused` if the nodes or lines differ."""

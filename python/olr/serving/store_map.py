@@ -11,12 +11,15 @@ from pathlib import Path
 
 from olr.asking.exchange import Asked
 from olr.asking.files import Version
+from olr.asking.processes import Line
 from olr.asking.program import find_program
 from olr.client.source import FilesSource
 from olr.client.store_source import StoreSource
 from olr.errors import ToolError
+from olr.model.box import Box
 from olr.model.map_folder import store_of
 from olr.regions.store import Store
+from olr.serving.judging import text_within
 from olr.serving.limits import Limits
 from olr.serving.process import Answer
 from olr.serving.rooms import Room
@@ -83,18 +86,25 @@ class StoreMap(Served):
         self, asked: Asked, text: bytes, *more: str, is_in_stream: bool = False
     ) -> Future[Answer]:
         """See `Served`."""
-        return asyncio.ensure_future(self._answer(asked, text.decode(), more))
+        return asyncio.ensure_future(
+            self._answer(lambda source: _line_about(source, asked, text.decode(), more))
+        )
 
-    async def _answer(self, asked: Asked, text: str, more: Sequence[str]) -> Answer:
-        """As `ask`, once it is its turn: they come in order."""
+    def within(self, box: Box) -> Future[Answer]:
+        """See `Served`."""
+        return asyncio.ensure_future(
+            self._answer(lambda source: source.within(box, text_within(box)))
+        )
+
+    async def _answer(self, line_of: Callable[[StoreSource], Line]) -> Answer:
+        """The answer of a line, which is asked for once it is its turn: they come in order."""
         async with self._asking.place():
-            return await self._in_thread(lambda: self._asked(asked, text, more))
+            return await self._in_thread(lambda: self._asked(line_of))
 
-    def _asked(self, asked: Asked, text: str, more: Sequence[str]) -> Answer:
-        """As `ask`. Raises `ToolError`."""
+    def _asked(self, line_of: Callable[[StoreSource], Line]) -> Answer:
+        """As `_answer`. Raises `ToolError`."""
         assert self._source is not None
-        with closing(self._source.about(asked, [text], *more)) as lines:
-            line = next(lines)
+        line = line_of(self._source)
         if isinstance(line, ToolError):
             raise line
         return Answer(line.answer, line.fault, Version(self._source.digest(), None))
@@ -119,3 +129,9 @@ class StoreMap(Served):
     def figures(self) -> Counter[str]:
         """See `Served`. One process works while a question is asked, and is started by whatever asks it."""
         return Counter(working=int(self._asking.is_full()), waiting=self._asking.waiting)
+
+
+def _line_about(source: StoreSource, asked: Asked, text: str, more: Sequence[str]) -> Line:
+    """The line about a reference. Raises `ToolError`."""
+    with closing(source.about(asked, [text], *more)) as lines:
+        return next(lines)

@@ -49,7 +49,7 @@ class FeaturesTask(NamedTuple):
 
 
 class SceneTask(NamedTuple):
-    """All that the page draws of a reference."""
+    """What the page draws of a reference: a line of JSON with the box around it, and then the scene."""
 
     judged_by: JudgedBy
     reference: str
@@ -66,6 +66,14 @@ class SceneTask(NamedTuple):
     tiles: str | None
 
 
+class AroundTask(NamedTuple):
+    """The whole scene: with what lies around it."""
+
+    scene: bytes
+    lines: bytes | Fault
+    """The answer about its box."""
+
+
 class LinesTask(NamedTuple):
     """Lines about records, by what the program answered to them."""
 
@@ -74,4 +82,4 @@ class LinesTask(NamedTuple):
     some: Sequence[Answered]
 
 
-Task = FeaturesTask | SceneTask | LinesTask
+Task = FeaturesTask | SceneTask | AroundTask | LinesTask

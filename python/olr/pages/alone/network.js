@@ -56,7 +56,6 @@ class Network {
     this._putNodes(nodes.numbers, from, to);
     this._putPoints(nodes.numbers, lines);
     this._outgoing = null;
-    this._boxes = null;
     this._banned = new Set();
     if (bans !== null) bans.numbers[0].forEach((first, place) => this._ban(String(first), String(bans.numbers[1][place])));
   }
@@ -70,13 +69,6 @@ class Network {
     const rank = this._rankOf(id);
     if (rank < 0) throw new ToolError(`the map in ${this._folder} has no line ${id}: read the map that the answer is of`);
     return this.byId[rank];
-  }
-
-  // The points of a line, with both ends.
-  polyline(index) {
-    const points = [];
-    for (let at = this._first[index]; at < this._first[index + 1]; at += 1) points.push(this._point(at));
-    return points;
   }
 
   // The point of a place. Throws a ToolError if the map hasn't this line, or it ends before.
@@ -100,18 +92,6 @@ class Network {
       points.push(this._at(index, high));
     }
     return pathOf(points);
-  }
-
-  // The indices of the lines that meet a box, { low, high }, each a latitude and a longitude: the more important ones first.
-  linesIn({ low: [south, west], high: [north, east] }) {
-    this._boxes = this._boxes || this._boxesOfLines();
-    const [souths, wests, norths, easts] = this._boxes;
-    const near = [];
-    for (let index = 0; index < this.count; index += 1) {
-      const isBeside = souths[index] / 1e6 <= north && norths[index] / 1e6 >= south;
-      if (isBeside && wests[index] / 1e6 <= east && easts[index] / 1e6 >= west) near.push(index);
-    }
-    return near.sort((one, other) => this.class[one] - this.class[other]);
   }
 
   // The indices of the lines that start at a node, by rising ids.
@@ -201,20 +181,6 @@ class Network {
       next[this.from[index]] += 1;
     }
     return [first, lines];
-  }
-
-  // The least and the greatest latitudes and longitudes of lines, in microdegrees.
-  _boxesOfLines() {
-    const of = (values, choose) => {
-      const found = new Int32Array(this.count);
-      for (let index = 0; index < this.count; index += 1) {
-        let value = values[this._first[index]];
-        for (let at = this._first[index] + 1; at < this._first[index + 1]; at += 1) value = choose(value, values[at]);
-        found[index] = value;
-      }
-      return found;
-    };
-    return [of(this._lat, Math.min), of(this._lon, Math.min), of(this._lat, Math.max), of(this._lon, Math.max)];
   }
 
   // ---- what is looked up

@@ -27,6 +27,10 @@ class ProgramOnPart {
     return isThere ? this.program.answer(what, numbers, reference, after) : { text: null, fault: NOT_ON_PAGE };
   }
 
+  around(box) {
+    return this.program.around(box);
+  }
+
   lines(what, numbers, records) {
     const areThere = this.areThere(records);
     const asked = records.map(([key, reference], at) => [key, areThere[at] ? reference : ""]);

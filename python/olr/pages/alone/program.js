@@ -24,6 +24,12 @@ class Program {
     return this.#answered(askingText(what, numbers, reference, after));
   }
 
+  // The lines of the map that meet a box, with their shapes: it has the west, south, east and north end in microdegrees.
+  around(box) {
+    this.#requireMap();
+    return this.#answered(`lines --box=${box.join(",")} --shape`);
+  }
+
   // The lines of `olr batch` about records, each a key and a reference. The records count from 1.
   lines(what, numbers, records) {
     this.#requireMap();

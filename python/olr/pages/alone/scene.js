@@ -3,6 +3,9 @@
 //
 //   const scene = sceneOf({ reference, show, candidates, places, page, why, network, streets, judgement, confidence, note, numbers, mapName,
 //     tiles, tables });
+//   Object.assign(scene, linesDrawn(lines));
+//
+// The lines around are those of an answer to `lines` about `boxOf(scene)`.
 //
 // `reference` is its text, and `show` what it says. `candidates`, `places`, `page` (of `match`) and `why` are the program's answers with shapes,
 // as `exactJson` reads them, or else the texts of faults; `places` was asked with the `longList` of `tables`, and `why` is null where it fits
@@ -32,7 +35,6 @@ function sceneOf(given) {
   else scene.verdict.text = faultSentence(isFault(given.places) ? given.places : page, tables);
   if ((why ?? null) !== null) scene.why = whyOfScene(why, tables);
   Object.assign(scene, notesOf(firstMatching(scene, given), show, network, streets, numbers.lowest));
-  Object.assign(scene, linesAround(network, boxOf(scene)));
   scene.command = commandText(scene.why === null ? "places" : "why", scene.reference, mapName, { ...numbers, ...tables.longList }, tables);
   if (note && scene.entries.length) scene.probability = [`${note[0].toUpperCase()}${note.slice(1)}.`];
   scene.tiles = tiles;

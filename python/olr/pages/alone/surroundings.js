@@ -1,47 +1,34 @@
 "use strict";
-// The lines of a map around what a scene draws. A box is { low, high }: the least and the greatest [latitude, longitude], in degrees.
+// The lines of a map around what a scene draws.
 
 const MOST_LINES_DRAWN = 4000;
 // Metres of the map around what is drawn.
 const ROOM_AROUND = 300;
-// The length of a millionth of a degree of latitude, in metres.
+// The length of a microdegree of latitude, in metres.
 const MICRODEGREE_METRES = 0.11132;
 
-// What lies around a scene.
+// What lies around a scene: its west, south, east and north end in microdegrees, as `--box` has them.
 function boxOf(scene) {
-  return boxAround([
+  const spots = [
     ...scene.points.map((point) => point.spot),
     ...scene.candidates.flat().map((one) => one.spot),
     ...scene.entries.flatMap((entry) => entry.route),
-  ]);
-}
-
-// What lies around some points.
-function boxAround(spots) {
-  const room = ROOM_AROUND / MICRODEGREE_METRES / 1e6;
+  ];
+  const room = ROOM_AROUND / MICRODEGREE_METRES;
   const mean = spots.reduce((sum, [lat]) => sum + lat, 0) / spots.length;
   const wide = room / Math.max(0.1, Math.cos(mean * (Math.PI / 180)));
-  const ends = (axis, of) => spots.reduce((end, spot) => of(end, spot[axis]), spots[0][axis]);
-  return {
-    low: [ends(0, Math.min) - room, ends(1, Math.min) - wide],
-    high: [ends(0, Math.max) + room, ends(1, Math.max) + wide],
-  };
+  const end = (axis, of) => spots.reduce((value, spot) => of(value, spot[axis]), spots[0][axis]) * 1e6;
+  return [end(1, Math.min) - wide, end(0, Math.min) - room, end(1, Math.max) + wide, end(0, Math.max) + room].map(Math.round);
 }
 
-// The lines in a box as they are drawn, the more important ones first, and how many more there are: { lines, cut }.
-function linesAround(network, box) {
-  const near = network.linesIn(box);
-  const lines = near.slice(0, MOST_LINES_DRAWN).map((index) => lineDrawn(network, index));
-  return { lines, cut: Math.max(0, near.length - MOST_LINES_DRAWN) };
+// Members of a scene, of an answer to `lines`: `lines`, as they are drawn, the more important ones first, how many are `cut`, and whether there
+// are `more`, which nobody counted.
+function linesDrawn({ lines, more }) {
+  const near = lines.slice().sort((one, other) => one.class - other.class);
+  return { lines: near.slice(0, MOST_LINES_DRAWN).map(lineDrawn), cut: Math.max(0, near.length - MOST_LINES_DRAWN), more };
 }
 
 // A line as it is drawn.
-function lineDrawn(network, index) {
-  return {
-    id: network.ids[index],
-    class: network.class[index],
-    form: FORM_TEXTS[network.form[index]],
-    length: metresText(network.length[index]),
-    path: pathOf(network.polyline(index)),
-  };
+function lineDrawn({ id, class: roadClass, form, length, shape }) {
+  return { id, class: roadClass, form: FORM_TEXTS[form], length: metresText(length), path: pathDrawn(shape) };
 }

@@ -91,10 +91,11 @@ function sceneAt(options) {
   const [candidates, places, page] = [ask("candidates"), ask("places", listing(ofPlaces)), ask("match", defaultsOf("match"))];
   const why = fitsSomewhere(places, page) ? null : ask("why", defaultsOf("why"));
   const judgement = typeof places === "string" ? null : judged(places, judging);
-  return sceneOf({
+  const scene = sceneOf({
     reference: ref, show, candidates, places, page, why, network, streets, judgement, confidence: judging.confidence, note, numbers,
     mapName: map.folder, tiles, tables,
   });
+  return Object.assign(scene, linesDrawn(exactJson(throwing(program.around(boxOf(scene))))));
 }
 
 // As `places` are asked for whose answers are judged.

@@ -6,27 +6,28 @@ from pathlib import Path
 from typing import Any, NamedTuple
 
 from olr.arrays import Floats
+from olr.client.map_client import Map
 from olr.comparing.changes import Compared, Side
 from olr.comparing.columns import reason_of, remedy_of, rounded
 from olr.comparing.places import Shape, Spot
 from olr.comparing.summary import Summary
 from olr.geometry.agreement import AGREE
-from olr.geometry.network import Network
 from olr.matching.columns import rounded as probability_shown
 from olr.matching.tables import NO_COLUMNS, Columns
 from olr.messages.message import Message
 from olr.model.asked_with import command_text, is_for_program
+from olr.model.box import Box
 from olr.model.fault import Fault
 from olr.pages.html import Template, html_of
 from olr.pages.kept import cells_of
 from olr.pages.report.sample import equal_shares
-from olr.pages.view.surroundings import DIGITS, Box, Surroundings, around_points, network_around
+from olr.pages.view.surroundings import box_around, line_drawn, lines_around
 
 TEMPLATE = Template("olr.pages.compare", ("bars", "map", "table"))
 MOST_LINES = 10_000
 """Of the new map, behind the places."""
-CHUNK = 100
-"""Around so many references the lines of a map are read at once."""
+DIGITS = 7
+"""Of a degree: a centimetre."""
 MOVED = "Those that moved did so by {:,.1f} m in the median, and by {:,.1f} m at most."
 AGREEING = "The maps agree on {}: each of their two places covers {:.0%} of the other one at least."
 LEFT_OUT = "{:,} of {:,} references that change are left out here: of each change those at the end of the file."
@@ -90,9 +91,9 @@ class About(NamedTuple):
         ]
 
 
-def page_of(about: About, summary: Summary, changed: Changed, network: Network) -> str:
-    """A page of HTML, which loads nothing. The lines behind the places are those of the network, of the new map. Raises `ToolError` if
-    Leaflet isn't installed, or a store can't be read."""
+def page_of(about: About, summary: Summary, changed: Changed, new: Map) -> str:
+    """A page of HTML, which loads nothing. The lines behind the places are those of the new map. Raises `ToolError` if Leaflet
+    isn't installed, or the map can't be asked."""
     chosen = changed.chosen()
     drawn = [_drawn(number, one) for number, one in enumerate(chosen)]
     left = changed.count - len(chosen)
@@ -113,7 +114,7 @@ def page_of(about: About, summary: Summary, changed: Changed, network: Network) 
         "kept": list(changed.kept),
         "rows": [one.row | {"commands": about.commands(one.reference)} for one in chosen],
         "shapes": [shape for some in drawn for shape in some],
-        "roads": _roads(network, [_box(one) for one in chosen if one.shapes]),
+        "roads": _roads(new, [_box(one) for one in chosen if one.shapes]),
     }
     return html_of(TEMPLATE, f"Changes of {about.messages} with {about.new}", data)
 
@@ -180,19 +181,22 @@ def _drawn(row: int, shown: Shown) -> list[Row]:
 
 def _box(shown: Shown) -> Box:
     """What lies around both places."""
-    return around_points(np.concatenate(list(shown.shapes.values()))[:, ::-1])
+    return box_around(np.concatenate(list(shown.shapes.values()))[:, ::-1].tolist())
 
 
-def _roads(network: Network, boxes: Sequence[Box]) -> list[Row]:
-    """The lines of a map in boxes, the more important ones if there are many: no more are held."""
+def _roads(new: Map, boxes: Sequence[Box]) -> list[Row]:
+    """The lines of a map in boxes, the more important ones if there are many: few more are held."""
     found: dict[int, Row] = {}
-    for first in range(0, len(boxes), CHUNK):
-        some = boxes[first : first + CHUNK]
-        around = Surroundings(network_around(network, some))
-        indices = {index for box in some for index in around.within(box).tolist()}
-        for index in indices:
-            if around.id(index) not in found:
-                found[around.id(index)] = around.line(index)
-        lines = sorted(found.values(), key=lambda line: (int(line["class"]), int(line["id"])))
-        found = {line["id"]: line for line in lines[:MOST_LINES]}
-    return [{"class": line["class"], "path": line["path"]} for line in found.values()]
+    for box in boxes:
+        found |= {line.id: line_drawn(line) for line in lines_around(new, box)}
+        if len(found) > 2 * MOST_LINES:
+            found = _most_important(found)
+    return [
+        {"class": line["class"], "path": line["path"]} for line in _most_important(found).values()
+    ]
+
+
+def _most_important(lines: Mapping[int, Row]) -> dict[int, Row]:
+    """As many lines as are shown, by their ids."""
+    ordered = sorted(lines.values(), key=lambda line: (int(line["class"]), int(line["id"])))
+    return {line["id"]: line for line in ordered[:MOST_LINES]}

@@ -10,14 +10,14 @@
     return made;
   };
 
-  // ---- paths, which the data has as steps of latitude and longitude in units of a ten millionth of a degree
+  // ---- paths, which the data has as steps of latitude and longitude in microdegrees
   const pathOf = (steps) => {
     const path = [];
     let [lat, lon] = [0, 0];
     for (let at = 0; at < steps.length; at += 2) {
       lat += steps[at];
       lon += steps[at + 1];
-      path.push([lat / 1e7, lon / 1e7]);
+      path.push([lat / 1e6, lon / 1e6]);
     }
     return path;
   };

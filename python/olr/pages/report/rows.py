@@ -7,7 +7,6 @@ from typing import Any, NamedTuple
 
 from olr.client.map_client import Map
 from olr.confidence.judged import Judged, Judging, judged
-from olr.geometry.network import Network
 from olr.matching.columns import rounded
 from olr.model.answers import Why
 from olr.model.fault import Fault
@@ -15,7 +14,7 @@ from olr.model.reference import read_reference
 from olr.pages.report.sample import Drawn
 from olr.pages.view.scene import Answered, answers_about, scene_of_answers
 from olr.pages.view.sentences import why_texts
-from olr.pages.view.surroundings import DIGITS, Scene, Surroundings, box_of, network_around
+from olr.pages.view.surroundings import Scene, box_of, line_drawn, lines_around
 from olr.progress import watched
 
 CHUNK = 100
@@ -50,7 +49,7 @@ def rows_of(
     drawn: Sequence[Drawn], asked: Map, numbers: Mapping[str, int], judging: Judging
 ) -> Rows:
     """Asks about messages, and makes rows of the answers, which are judged. Raises `ToolError`."""
-    network, lines = asked.network(), _Lines()
+    lines = _Lines(asked)
     rows: list[Row] = []
     scenes: list[Scene | None] = []
     shapes: list[Row] = []
@@ -58,9 +57,9 @@ def rows_of(
     while chunk := list(islice(messages, CHUNK)):
         answers = _answers_about(chunk, asked, numbers)
         made = _scenes(answers, judging)
-        lines.add(network, [scene for scene, _ in made if scene is not None])
         for one, answered, (scene, judgement) in zip(chunk, answers, made):
             if answered is not None and scene is not None:
+                lines.add(scene)
                 _pack(scene)
                 shapes += _shapes(len(rows), answered, scene)
             rows.append(_row(one, answered, judgement))
@@ -100,33 +99,23 @@ def _answers_about(
 class _Lines:
     """Lines of the map around scenes: the most important ones of all that were added."""
 
-    def __init__(self) -> None:
+    def __init__(self, asked: Map) -> None:
+        self._asked = asked
         self._found: dict[int, Scene] = {}
         self._seen: set[int] = set()
-        self._last: tuple[Network, Surroundings] | None = None
 
-    def add(self, network: Network, scenes: Sequence[Scene]) -> None:
-        """Adds the lines around scenes, and to each scene its box, and how many lines there are in it."""
-        if not scenes:
-            return
-        boxes = [box_of(scene) for scene in scenes]
-        around = self._around(network_around(network, boxes))
-        for scene, box in zip(scenes, boxes):
-            near = around.within(box)
-            scene |= {"box": [*box.low.tolist(), *box.high.tolist()], "near": len(near)}
-            for index in near.tolist():
-                line = around.id(index)
-                if line not in self._seen:
-                    self._seen.add(line)
-                    self._found[line] = around.line(index)
+    def add(self, scene: Scene) -> None:
+        """Adds the lines around a scene, and to it its box, and how many lines there are in it. Raises `ToolError`."""
+        box = box_of(scene)
+        near = lines_around(self._asked, box)
+        edges = (box.south, box.west, box.north, box.east)
+        scene |= {"box": [edge / 1e6 for edge in edges], "near": len(near), "more": near.more}
+        for line in near:
+            if line.id not in self._seen:
+                self._seen.add(line.id)
+                self._found[line.id] = line_drawn(line)
         if len(self._found) > 2 * MOST_LINES:
             self._cut()
-
-    def _around(self, network: Network) -> Surroundings:
-        """The lines of a network by their boxes, which are computed once."""
-        if self._last is None or self._last[0] is not network:
-            self._last = network, Surroundings(network)
-        return self._last[1]
 
     def _cut(self) -> None:
         """Keeps the most important lines."""
@@ -211,7 +200,7 @@ def _pack(scene: Scene) -> None:
 
 
 def _steps(path: Sequence[Sequence[float]]) -> Steps:
-    """A path as steps of latitude and longitude, from 0 on, in units of the last digit: a third of the letters."""
-    whole = np.rint(np.array(path).reshape(-1, 2) * 10**DIGITS).astype(np.int64)
+    """A path as steps of latitude and longitude, from 0 on, in microdegrees: a third of the letters."""
+    whole = np.rint(np.array(path).reshape(-1, 2) * 1e6).astype(np.int64)
     steps: Steps = np.diff(whole, axis=0, prepend=0).ravel().tolist()
     return steps

@@ -4,6 +4,7 @@
 |---|---|
 | `scene` | all that is drawn, as data |
 | `surroundings` | the lines of the map around it |
+| `paths` | coordinates of answers as they are drawn |
 | `sentences` | what is said about it |
 | `notes` | other paths of its first entry |
 | `showing` | `olr.view`: the page in a notebook |

@@ -9,7 +9,7 @@ from olr.model.answers import Matching, Page, Places, Reference
 from olr.near_paths.notes import LegNote, apart_from, legs_of, near_paths
 from olr.near_paths.streets import Streets
 from olr.pages.view.sentences import metres
-from olr.pages.view.surroundings import Scene, path_of
+from olr.pages.view.surroundings import Scene
 
 if TYPE_CHECKING:
     from olr.pages.view.scene import Answered
@@ -40,7 +40,7 @@ def notes_of(
             if note.equal is not None
             for stretch in apart_from(note.equal.pieces, pieces)
         ]
-        others = [path_of(network.path(stretch)) for stretch in stretches]
+        others = [network.path(stretch)[:, ::-1].tolist() for stretch in stretches]
     except ToolError:
         return {"notes": [], "others": []}
     return {"notes": note_texts(notes, lowest), "others": others}

@@ -17,7 +17,8 @@ from olr.model.questions import What, listing
 from olr.near_paths.notes import streets_of
 from olr.pages.view import sentences
 from olr.pages.view.notes import notes_of
-from olr.pages.view.surroundings import Scene, Surroundings, box_of, network_around
+from olr.pages.view.paths import path_drawn, spot_drawn
+from olr.pages.view.surroundings import Scene, box_of, lines_around, lines_drawn
 
 MOST_IDS = 6
 
@@ -47,9 +48,7 @@ def scene_of(text: str, asked: Map, confidence: Confidence | None = None, **numb
     scene = scene_of_answers(answered, judgement, confidence)
     network, lowest = asked.network(), asked.tolerances["lowest"]
     scene |= notes_of(scene, answered, network, lowest, partial(streets_of, asked))
-    box = box_of(scene)
-    scene["lines"], scene["cut"] = Surroundings(network_around(network, [box])).lines(box)
-    return scene
+    return scene | lines_drawn(lines_around(asked, box_of(scene)))
 
 
 def answers_about(
@@ -227,15 +226,3 @@ def _why(why: Why | Fault) -> Scene:
             for line in point.nearest
         ],
     }
-
-
-def spot_drawn(spot: Spot | None) -> list[float]:
-    """A spot of an answer that was asked with shapes, as it is drawn."""
-    assert spot is not None
-    lon, lat = spot
-    return [lat / 1e6, lon / 1e6]
-
-
-def path_drawn(shape: Sequence[Spot] | None) -> list[list[float]] | None:
-    """The spots of a shape as they are drawn, if there is one."""
-    return None if shape is None else list(map(spot_drawn, shape))
