@@ -31,7 +31,6 @@ run` wrote, and `olr.Confidence` says how probable places are. All names are imp
 | `checking` | what is wrong with a map's files, and what a map should be looked at for |
 | `confidence` | `olr.Confidence`: how probable it is that a place is the right one, by trials |
 | `trials` | references whose true path is known, and maps that differ as those of two makers do |
-| `near_paths` | other paths of a matching, nearly as short or on worse roads |
 | `matching` | answers as rows, tables and files with geometries |
 | `comparing` | what changes for references with another map |
 | `running` | any number of references on a map of any size, by many processes |

@@ -8,7 +8,7 @@ from typing import Any
 import olr
 from asking import draw_map
 from browser import Browser
-from olr.model.map_folder import BANS, LINES, NODES, read_map, write_map
+from olr.model.map_folder import read_map, write_map
 from olr.model.road_map import Ban, Line, Position, RoadMap
 from olr.pages.alone.page import SHARED
 
@@ -34,22 +34,10 @@ class Scripts:
         """The same; or what it throws, as a text."""
         return self._browser.value(f"{TRIED}(() => {_with_names(expression, given)})")
 
-    def read_map(self, folder: Path) -> None:
-        """Reads a map, which expressions may call `network` from now on. Its errors call it as Python does."""
-        texts = {name: text_of(folder / name) for name in (NODES, LINES, BANS)}
-        nodes, lines, bans = texts.values()
-        given = {"nodes": nodes, "lines": lines, "bans": bans, "folder": str(folder)}
-        self._browser.value(f"globalThis.network = Network.of({json.dumps(given)}), null")
-
 
 def _with_names(expression: str, given: dict[str, Any]) -> str:
     """An expression in a function with arguments of these names."""
     return f"(({', '.join(given)}) => {expression})({', '.join(map(json.dumps, given.values()))})"
-
-
-def text_of(file: Path) -> str | None:
-    """The text of a file; None if there is none."""
-    return file.read_bytes().decode("utf-8", "replace") if file.exists() else None
 
 
 def draw_two_ways(place: Path) -> Path:

@@ -20,7 +20,6 @@ from olr.confidence.choosing import judging_by
 from olr.confidence.confidence import DEFAULT, Confidence
 from olr.confidence.judged import judged
 from olr.confidence.likeness import Range
-from olr.geometry.network import Network
 from olr.model.answers import Places
 from olr.model.fault import Fault
 from olr.model.map_folder import read_map
@@ -56,14 +55,14 @@ class Asked(NamedTuple):
         """The references of all records."""
         return [one.record.text().decode() for one in self.some]
 
-    def answers(self, network: Network) -> list[Places | Fault]:
+    def answers(self) -> list[Places | Fault]:
         """Their answers."""
         found: list[Places | Fault] = []
         for one in self.some:
             if one.fault is not None:
                 found.append(Fault(one.fault))
             else:
-                answer = read_answer("places", one.answer, network.digest)
+                answer = read_answer("places", one.answer, None)
                 assert isinstance(answer, Places)
                 found.append(answer)
         return found
@@ -75,15 +74,8 @@ def folder(tmp_path_factory: pytest.TempPathFactory) -> Path:
 
 
 @pytest.fixture(scope="module")
-def network(folder: Path) -> Network:
-    return Network.read(folder)
-
-
-@pytest.fixture(scope="module")
-def scripts(browser: Browser, folder: Path) -> Scripts:
-    found = Scripts(browser)
-    found.read_map(folder)
-    return found
+def scripts(browser: Browser) -> Scripts:
+    return Scripts(browser)
 
 
 @pytest.fixture(scope="module")
@@ -187,7 +179,7 @@ def test_rows(asked: Asked, file: Path, scripts: Scripts) -> None:
 
 
 def test_rows_of_the_examples(
-    program: Program, folder: Path, top: Path, tmp_path: Path, scripts: Scripts
+    program: Program, top: Path, tmp_path: Path, scripts: Scripts
 ) -> None:
     place = tmp_path / "map"
     place.mkdir()
@@ -200,11 +192,7 @@ def test_rows_of_the_examples(
     judged_by = JudgedBy(asked.kind, Confidence.default())
     wanted = lines_of(asked.some, judged_by).decode().splitlines()
     given = {"lines": asked.lines, "numbers": asked.numbers()}
-    scripts.read_map(place)
-    try:
-        found = scripts.value(ROWS, confidence=json.loads(DEFAULT.read_text()), **given)
-    finally:
-        scripts.read_map(folder)
+    found = scripts.value(ROWS, confidence=json.loads(DEFAULT.read_text()), **given)
     assert found == wanted and len(wanted) > 5
 
 
@@ -263,12 +251,12 @@ def test_limits_by_hand(scripts: Scripts) -> None:
     assert scripts.value(LIMITS, cases=given) == list(cases.values())
 
 
-def test_judgements(asked: Asked, file: Path, network: Network, scripts: Scripts) -> None:
+def test_judgements(asked: Asked, file: Path, scripts: Scripts) -> None:
     """With all numbers: probabilities are the same to the last few bits, all others to the last."""
     confidence = Confidence.of_file(file)
     judging = judging_by(confidence, tolerances_of(FEED), asked.numbers() | {"apart": 750}).judging
     assert judging.confidence is confidence and judging.shown is not None
-    wanted = judged(asked.answers(network), judging)
+    wanted = judged(asked.answers(), judging)
     given = {"confidence": json.loads(file.read_text()), "shown": judging.shown._asdict()}
     found = scripts.value(JUDGED, lines=asked.lines, judging=given)
     assert [one is None for one in found] == [one is None for one in wanted]

@@ -1,8 +1,6 @@
 """What the page that answers by itself reads: the program's JSON, queries, and numbers as Python has them."""
 
 import json
-import math
-import numpy as np
 import pytest
 import random
 import re
@@ -124,10 +122,3 @@ def test_numbers(scripts: Scripts) -> None:
     assert scripts.value("values.map((one) => rounded(one, 3))", values=values) == [
         round(one, 3) for one in values
     ]
-    halves = [number / 4 for number in range(-20, 20)]
-    assert scripts.value("values.map(roundHalfEven)", values=halves) == np.round(halves).tolist()
-    pairs = [
-        (draws.random() * 10 ** -draws.randrange(9), draws.uniform(-1, 1)) for _ in range(500)
-    ] + [(0, 0), (0, 2), (3, 4)]
-    lengths = scripts.value("pairs.map(([x, y]) => hypotenuse(x, y))", pairs=pairs)
-    assert lengths == pytest.approx([math.hypot(*pair) for pair in pairs], rel=3e-16, abs=0)

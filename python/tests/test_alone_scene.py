@@ -10,27 +10,25 @@ from typing import Any, NamedTuple
 
 from alone import Scripts
 from asking import draw_map, draw_references
+from blocks import Block, block
 from browser import Browser
 from confidences import FEED as TOLD
 from confidences import write_confidence
 from conftest import TOP, Program
-from olr.asking.files import MapFiles
 from olr.confidence.confidence import Confidence
 from olr.confidence.contents import text_of as text_of_confidence
 from olr.confidence.likeness import Range
 from olr.model.fault import Fault
 from olr.model.objects import raw_line
-from olr.model.questions import NUMBERS, What
+from olr.model.questions import NUMBERS, TOLERANCES, What
 from olr.model.reference import NEGATIVE, POSITIVE
 from olr.pages.alone.tables import tables
 from olr.pages.view.scene import fits
 from olr.serving import scene_texts
-from olr.serving.ground import FolderGround
 from olr.serving.judging import listing_of, shaped
 from olr.serving.queries import asked_of
 from olr.serving.tasks import AroundTask, JudgedBy, SceneTask
 from region_maps import EAST, WEST, Point, hostile_map, hostile_text, text_of
-from test_near_paths import Block, block
 
 MAKE = """
 cases.map((one) => {
@@ -41,11 +39,13 @@ cases.map((one) => {
   const fits = fitsSomewhere(places, page);
   const answers = { show: exactJson(one.show), candidates, places, page, why: fits ? null : why, judgement };
   const { confidence } = judging;
-  const scene = sceneOf({ ...one, ...answers, confidence, note, network, streets: Streets.of(network), tables });
-  return { fits, box: boxOf(scene), scene: Object.assign(scene, linesDrawn(exactJson(one.lines))) };
+  const scene = sceneOf({ ...one, ...answers, confidence, note, tables });
+  const about = { fits, box: boxOf(scene), cursor: scene.entries.length ? scene.entries[0].cursor : null };
+  const notes = notesOf(one.legs && exactJson(one.legs), one.numbers.lowest);
+  return { ...about, scene: Object.assign(scene, notes, linesDrawn(exactJson(one.lines))) };
 })
 """
-"""Scenes of what the program answers, each with whether there is a place, and the box around it."""
+"""Scenes of what the program answers, each with whether there is a place, the box around it, and the first cursor."""
 KIOSK = "KwVGnCN20HPDBwFCATFjT5Y="
 Json = dict[str, Any]
 
@@ -61,12 +61,6 @@ class MapAsked(NamedTuple):
 
     program: Program
     folder: Path
-    ground: FolderGround
-
-    @classmethod
-    def of(cls, program: Program, folder: Path) -> "MapAsked":
-        """That of a folder."""
-        return cls(program, folder, FolderGround(MapFiles.of_folder(folder)))
 
     def lines(self, what: What, options: Mapping[str, str], texts: Sequence[str]) -> list[bytes]:
         """What the program answers about references, asked as by the server."""
@@ -116,8 +110,8 @@ class MapAsked(NamedTuple):
         }
         judged_by = JudgedBy(asked_of("places", options, 1_000_000), confidence)
         answers = (text, said, read["candidates"], read["places"], read["match"])
-        task = SceneTask(judged_by, *answers, read["why"], True, map_name, None)
-        answered = scene_texts._answered(task, self.ground.network.digest)
+        task = SceneTask(judged_by, *answers, read["why"], map_name, None)
+        answered = scene_texts._answered(task)
         task = task._replace(why=None) if fits(answered) else task
         given = {
             "reference": text,
@@ -131,17 +125,25 @@ class MapAsked(NamedTuple):
             "numbers": judged_by.asked.numbers(),
             "mapName": map_name,
         }
-        first, scene = scene_texts.text_of(task, self.ground).split(b"\n")
-        box = json.loads(first)
-        lines = self.lines_within(box)
-        whole = json.loads(scene_texts.with_surroundings(AroundTask(scene, lines)))
-        expected = {"fits": task.why is None, "box": box, "scene": with_texts(whole)}
-        return given | {"lines": lines.decode()}, expected
+        first, scene = scene_texts.text_of(task).split(b"\n")
+        box, cursor = json.loads(first)
+        numbers = judged_by.asked.numbers()
+        legs = None if cursor is None else self._legs(text, cursor, numbers)
+        lines = self._said("lines", "--box", ",".join(map(str, box)), "--shape")
+        around = AroundTask(scene, legs, lines, numbers["lowest"])
+        whole = json.loads(scene_texts.with_surroundings(around))
+        expected = {"fits": task.why is None, "box": box, "cursor": cursor}
+        given |= {"legs": legs and legs.decode(), "lines": lines.decode()}
+        return given, expected | {"scene": with_texts(whole)}
 
-    def lines_within(self, box: Sequence[int]) -> bytes:
-        """What the program answers about the lines in a box."""
-        words = ("--box", ",".join(map(str, box)), "--shape", "--map", self.folder)
-        ended = self.program.run("lines", *words)
+    def _legs(self, text: str, cursor: str, numbers: Mapping[str, int]) -> bytes:
+        """What the program says of the legs of a matching."""
+        tolerances = [word for name in TOLERANCES for word in (f"--{name}", str(numbers[name]))]
+        return self._said("legs", *tolerances, "--at", cursor, "--format", "geojson", "--", text)
+
+    def _said(self, what: str, *words: str) -> bytes:
+        """What the program prints about the map."""
+        ended = self.program.run(what, "--map", self.folder, *words)
         assert ended.returncode == 0, ended.stderr
         return ended.stdout.strip().encode()
 
@@ -199,8 +201,7 @@ def test_the_examples(
     alone: Scripts, program: Program, tmp_path: Path, names: Sequence[str], options: dict[str, str]
 ) -> None:
     folder = copied(TOP / "examples", tmp_path / "it's the map", *names)
-    alone.read_map(folder)
-    asked = MapAsked.of(program, folder)
+    asked = MapAsked(program, folder)
     cases = asked.cases(texts_of("messages.tsv", "unmatched.tsv"), options, map_name=folder.name)
     scenes = assert_same(alone, cases)
     assert all(scene["command"].split("--map ")[1][0] == "'" for scene in scenes)
@@ -217,10 +218,9 @@ def test_another_confidence(
 ) -> None:
     """It says how different the maps are. A map without a name has no command."""
     folder = copied(TOP / "examples", tmp_path / "map", "nodes.csv", "lines.csv")
-    alone.read_map(folder)
     file = write_confidence(tmp_path / "file.json", Range(1.25, 0.35, 12.0), feed)
     confidence = Confidence.of_file(file)
-    asked = MapAsked.of(program, folder)
+    asked = MapAsked(program, folder)
     cases = asked.cases(texts_of("messages.tsv"), {"profile": "program"}, confidence, None)
     scenes = assert_same(alone, cases)
     word = "seem to" if feed else "that"
@@ -231,8 +231,7 @@ def test_another_confidence(
 
 def test_a_drawn_town(alone: Scripts, program: Program, tmp_path: Path) -> None:
     folder = draw_map(tmp_path / "map", 600, 1200)
-    alone.read_map(folder)
-    asked = MapAsked.of(program, folder)
+    asked = MapAsked(program, folder)
     cases = asked.cases(draw_references(folder, 30), {"profile": "program", "apart": "20"})
     scenes = assert_same(alone, cases)
     assert sum(len(scene["entries"]) for scene in scenes) > 30
@@ -244,8 +243,7 @@ def test_hostile_maps(alone: Scripts, program: Program, tmp_path: Path, seed: in
     draw = random.Random(seed)
     drawing = hostile_map(draw, draw.choice([0, 45_000_000, -70_000_000]), draw.choice([0, -900]))
     folder = drawing.write(tmp_path / "map")
-    alone.read_map(folder)
-    asked = MapAsked.of(program, folder)
+    asked = MapAsked(program, folder)
     texts = [hostile_text(draw, drawing) for _ in range(8)]
     assert_same(alone, asked.cases(texts, {"profile": "program", "radius": "300", "percent": "80"}))
 
@@ -281,8 +279,7 @@ def test_other_paths(
     """Ways round a block that are as short, longer by so much that it counts or doesn't, or shorter on roads of a worse class; on the second
     leg too. From a place on a line to one further on there is one path."""
     folder = drawn.drawing.write(tmp_path / "map")
-    alone.read_map(folder)
-    asked = MapAsked.of(program, folder)
+    asked = MapAsked(program, folder)
     (scene,) = assert_same(alone, asked.cases([drawn.text], {"profile": "program"}))
     assert scene["notes"] == ([] if note is None else [note])
     assert len(scene["entries"]) >= 1
@@ -291,9 +288,8 @@ def test_other_paths(
 def test_a_tolerance_for_classes(alone: Scripts, program: Program, tmp_path: Path) -> None:
     drawn = block(south_class=5, south=(600, 500))
     folder = drawn.drawing.write(tmp_path / "map")
-    alone.read_map(folder)
     options = {"profile": "program", "lowest": "1"}
-    (scene,) = assert_same(alone, MapAsked.of(program, folder).cases([drawn.text], options))
+    (scene,) = assert_same(alone, MapAsked(program, folder).cases([drawn.text], options))
     assert "the reference and --lowest 1 allow class 4 or better." in scene["notes"][0]
 
 
@@ -301,13 +297,10 @@ def test_offsets_that_leave_nothing(alone: Scripts, program: Program, tmp_path: 
     """Nothing is covered where both offsets are nearly the whole leg."""
     drawn = block()
     folder = drawn.drawing.write(tmp_path / "map")
-    alone.read_map(folder)
     content = bytearray(base64.b64decode(drawn.text))
     content[-1] |= POSITIVE | NEGATIVE
     text = base64.b64encode(content + bytes([250, 250])).decode()
-    (scene,) = assert_same(
-        alone, MapAsked.of(program, folder).cases([text], {"profile": "program"})
-    )
+    (scene,) = assert_same(alone, MapAsked(program, folder).cases([text], {"profile": "program"}))
     assert (
         scene["offsets"]
         == "positive offset 250/256 of the first leg, negative offset 250/256 of the last leg"
@@ -322,8 +315,7 @@ def test_too_many_candidates(alone: Scripts, program: Program, tmp_path: Path) -
     lines += [f"{number},1,2,{number % 8},3,1113,500 {number}" for number in range(1, 4011)]
     (tmp_path / "nodes.csv").write_text("\n".join(nodes) + "\n")
     (tmp_path / "lines.csv").write_text("\n".join(lines) + "\n")
-    alone.read_map(tmp_path)
-    asked = MapAsked.of(program, tmp_path)
+    asked = MapAsked(program, tmp_path)
     (scene,) = assert_same(alone, asked.cases(["CwAAAAAAABtoAQBkAAAbGA=="], {"profile": "feed"}))
     assert (scene["cut"], scene["verdict"]["word"]) == (10, "refused")
     assert "more than 64 lines may carry point 1" in scene["verdict"]["text"]

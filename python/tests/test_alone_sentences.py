@@ -148,17 +148,6 @@ def test_points_along_lines_have_no_probability(alone: Scripts) -> None:
     assert said(alone, "probabilityTexts", {"places": [], "noneOfThese": None}, {}) == expected
 
 
-def test_the_first_matching(alone: Scripts) -> None:
-    """It is that of the first entry, of a place or else of the page."""
-    one, two, three = ({"cursor": cursor} for cursor in ("5:1.1", "7:1.2", "9:2.1"))
-    answers: Json = {"places": {"places": [{"matching": one}, {"matching": two}]}}
-    answers["page"] = {"matchings": [one, three]}
-    for matching in (one, two, three):
-        entries = [{"cursor": matching["cursor"]}, {"cursor": "5:1.1"}]
-        assert said(alone, "firstMatching", {"entries": entries}, answers) == matching
-    assert said(alone, "firstMatching", {"entries": []}, answers) is None
-
-
 def test_commands(alone: Scripts) -> None:
     """Words are quoted as a shell needs it, and what is as the program has it by default isn't there."""
     questions: tuple[What, ...] = ("places", "why", "match", "candidates")

@@ -11,7 +11,7 @@ PACKAGE = Path(__file__).resolve().parents[1] / "olr"
 LAYERS = (
     "arrays content counts curve errors extras outputs processors progress setup signals sphere streams temporary version model",
     "asking physical",
-    "checking client comparing confidence geometry importing matching messages near_paths osm regions running trials vector",
+    "checking client comparing confidence geometry importing matching messages osm regions running trials vector",
     "pages commands serving tools",
 )
 """The packages and modules of `olr`, the lowest layer first. `olr` itself is above all: it names what is public, and imports it late."""

@@ -10,17 +10,16 @@ import olr
 from conftest import Program
 from live_maps import Made, draw_made
 from olr.model.map_folder import LINES, read_map
-from olr.model.questions import NUMBERS, TOLERANCES, What
+from olr.model.questions import NUMBERS, TOLERANCES, OfReference
 from olr.model.reference import read_points, read_reference
 from olr.model.road_map import MICRODEGREE, Origin
 from olr.model.sources import IDS, write_origins
-from olr.near_paths import notes
 from olr.pages.alone import part
 from olr.pages.alone.sources import SOURCES
 from olr.regions.making import make_store_of_folder
 from olr.regions.options import Options
 from olr.regions.plane import Disc
-from olr.regions.region import INTERVAL, discs_of
+from olr.regions.region import discs_of
 from olr.regions.store import Store
 from region_maps import Drawing, Point, text_of
 
@@ -71,9 +70,7 @@ def test_names_of_roads(
         files = part.part_for(it, made.references[:1]).files
     found = json.loads(files[SOURCES])
     ids = [row.split(b",")[0].decode() for row in files[LINES].splitlines()[1:]]
-    assert ids and [found["roads"][at] for at in found["lines"]] == [
-        [f"w{id}", f"Road {id}"] for id in ids
-    ]
+    assert ids and found == [[f"w{id}", f"Road {id}", [int(id)]] for id in ids]
 
 
 def in_metres(one: Disc, other: Disc) -> float:
@@ -82,12 +79,10 @@ def in_metres(one: Disc, other: Disc) -> float:
     return math.hypot(east, one.lat - other.lat) * MICRODEGREE
 
 
-@pytest.mark.parametrize("what", NUMBERS)
-def test_the_part_has_the_regions_of_all_questions(made: Made, what: What) -> None:
+@pytest.mark.parametrize("what", [*NUMBERS, "legs"])
+def test_the_part_has_the_regions_of_all_questions(made: Made, what: OfReference) -> None:
     """Of the greatest tolerances: and of other paths, which are a little longer than these admit."""
-    longest = INTERVAL * 256 * (100 + GREATEST["percent"]) // 100 + GREATEST["slack"]
-    longer = notes._margin(longest) if what == "match" else 0
-    options = Options.of(GREATEST | {"slack": GREATEST["slack"] + longer, "nearest": 64})
+    options = Options.of(GREATEST | {"nearest": 64})
     store = made.place / "discs.gpkg"
     make_store_of_folder(made.folder, store, force=True)
     with Store.open(store) as opened:

@@ -282,15 +282,15 @@ def test_features_have_sources_and_names(
 
 
 def test_what_a_page_has_of_sources(tools: Tools, tmp_path: Path, town: Path) -> None:
-    """Each road once, and the lines in the order of their file."""
+    """Each road once, with its lines."""
     for path in (town, town.with_name("town.gpkg")):
         page, _ = page_of(tools, tmp_path, path)
         files = carried(page)
         found = json.loads(files[SOURCES])
-        roads = list(map(tuple, found["roads"]))
-        assert len(set(roads)) == len(roads) < len(found["lines"])
+        roads = [(source, name) for source, name, _ in found]
+        known = {line: (source, name) for source, name, lines in found for line in lines}
+        assert len(set(roads)) == len(roads) < len(known)
         ids = [int(row["id"]) for row in csv.DictReader(files[LINES].decode().splitlines())]
-        known = {id: roads[at] for id, at in zip(ids, found["lines"], strict=True) if at >= 0}
         sources = Sources.of_folder(town)
         assert known == {id: (one.source, one.name) for id, one in sources.items()}
         assert {id for id in ids if id not in sources} and "surface" not in files[SOURCES].decode()

@@ -25,9 +25,15 @@ from conftest import Program
 from fake_pool import run_within
 from olr.asking.files import MapFiles, Version
 from olr.errors import MapRefused, ProgramEnded, ToolError
+from olr.matching.rows import Ground
 from olr.model.fault import Fault
+from olr.model.map_folder import read_map
+from olr.model.road_map import Origin
+from olr.model.sources import IDS, write_origins
+from olr.regions.making import make_store_of_folder
+from olr.regions.store import Store
 from olr.serving import files, maker
-from olr.serving.ground import Ground
+from olr.serving.ground import Grounds
 from olr.serving.limits import Limits
 from olr.serving.makers import Makers, _Maker
 from olr.serving.problems import Problem
@@ -178,26 +184,42 @@ def test_an_answer_that_is_shorter_than_its_task(map: MapVersion) -> None:
 
 
 def test_versions_of_a_map(drawn: Path, tmp_path: Path) -> None:
-    """Another version takes the place of the one that is there, and then that one is refused: nothing is made of it."""
+    """Where another version takes the place of the one that is there, its lines came from elsewhere: what was read stays, and nobody reads what
+    isn't of the version that answers."""
     folder = Path(shutil.copytree(drawn, tmp_path / "map"))
-    there = MapFiles.of_folder(folder)
-    old = MapVersion(tuple(there.paths()), there.found())
-    other = draw_map(tmp_path / "other", 1400, 2900)
+    store, line = tmp_path / "map.gpkg", read_map(drawn).lines[0].id
+    grounds = Grounds()
+
+    def named(name: str) -> MapVersion:
+        write_origins(folder / IDS, [Origin(line, "w1", "forward", 0, name)], ())
+        there = MapFiles.of_folder(folder)
+        return MapVersion(tuple(there.paths()), there.found())
+
+    def name_in(map: MapVersion) -> str:
+        return grounds.of(map).sources()[line].name
+
+    old = named("Old Street")
+    assert name_in(old) == "Old Street"
+    with (folder / "lines.csv").open("a") as stream:
+        stream.write("\n")
+    new = named("New Street")
+    assert [name_in(it) for it in (old, new, new)] == ["Old Street", "New Street", "New Street"]
+    with pytest.raises(MapRefused):
+        name_in(old)
+    make_store_of_folder(folder, store)
+    (folder / IDS).write_text("line")
+    with pytest.raises(ToolError, match="doesn't begin"):
+        name_in(new)
+    with Store.open(store) as opened:
+        map = MapVersion((store,), Version(opened.digest, None))
+    assert name_in(map) == "New Street"
+    with pytest.raises(MapRefused):
+        name_in(map._replace(version=Version("0", None)))
 
     async def run(asked: Makers) -> None:
-        await made_of(asked, old, task_of())
-        for name in ("nodes.csv", "lines.csv"):
-            shutil.copy(other / name, folder / name)
-        # What was read is there still.
-        await made_of(asked, old, task_of())
-        with pytest.raises(MapRefused):
-            await made_of(asked, old._replace(version=Version("0", None)), task_of())
-        await made_of(asked, old, task_of())
-        new = old._replace(version=MapFiles.of_folder(folder).found())
-        await made_of(asked, new, task_of())
-        with pytest.raises(MapRefused):
-            await made_of(asked, old, task_of())
-        await made_of(asked, new, task_of())
+        # What has no lines is made all the same.
+        for map in (old, new, old):
+            await made_of(asked, map, task_of())
         while tasks_of(os.getpid()):
             await asyncio.sleep(0.05)
 
@@ -303,7 +325,7 @@ class Working:
             self.server.close()
             setattr(maker, "_make", make)
             setattr(maker, "MOST_MADE", limit)
-            maker._work(asked, ToolError("no map") if make is print else cast(Ground, None))
+            maker._work(asked, cast(Ground, None))
         asked.close()
         pickle.dump(task_of(), file)
         file.flush()
@@ -353,11 +375,9 @@ def write_much(_: object, __: object, file: IO[bytes]) -> None:
     file.write(b"x" * (1 << 17))
 
 
-@pytest.mark.parametrize(
-    ("make", "error"), [(take_memory, MemoryError), (write_much, OSError), (print, ToolError)]
-)
+@pytest.mark.parametrize(("make", "error"), [(take_memory, MemoryError), (write_much, OSError)])
 def test_limits_of_a_process(make: Callable[..., None], error: type[Exception]) -> None:
-    """What goes beyond them is refused, and what comes then is answered; so it is where the map can't be read."""
+    """What goes beyond them is refused, and what comes then is answered."""
     with tempfile.TemporaryFile() as file:
         working = Working(make, file)
         found = working.answer()

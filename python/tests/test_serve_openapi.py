@@ -228,8 +228,7 @@ def test_files_that_have_changed(program: Program, described: Document, tmp_path
     with serving(program.path, folder, tmp_path / "log") as server:
         (folder / "lines.csv").write_text("")
         wait_until(lambda: server.get("/ready").status == 503)
-        for path in ("/ready", path_of("scene", FAR)):
-            assert described.status_of(path, "GET", server.get(path)) == 503
+        assert described.status_of("/ready", "GET", server.get("/ready")) == 503
 
 
 def test_members_that_arent_there_are_seen(described: Document) -> None:

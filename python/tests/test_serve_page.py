@@ -1,6 +1,7 @@
 """The page of `olr-tools serve` in Chromium: a reference, options, addresses that are sent on, keys, and a program that hangs."""
 
 import json
+import os
 import shlex
 import signal
 from pathlib import Path
@@ -22,7 +23,8 @@ from page_of_server import (
     also_of_a_file,
     opened,
 )
-from servers import Server, serving, wait_until
+from servers import Server, is_running, serving, wait_until
+from test_serve_makers import words_of
 
 
 @also_of_a_file
@@ -263,7 +265,7 @@ def test_what_takes_too_long(
 def test_a_map_that_changes(
     browser: Browser, program: Program, folder: Path, tmp_path: Path
 ) -> None:
-    """The page says so, and asks once more when the server has read it anew."""
+    """What was read answers, until no process is left: then the page says so, and asks once more when the server has read the map anew."""
     for name in ("nodes.csv", "lines.csv"):
         (tmp_path / name).write_bytes((folder / name).read_bytes())
     with serving(program.path, tmp_path, tmp_path / "log") as server:
@@ -271,7 +273,13 @@ def test_a_map_that_changes(
         page.open()
         lines = (tmp_path / "lines.csv").read_text().splitlines(keepends=True)
         (tmp_path / "lines.csv").write_text("".join(lines[:-1]))
-        assert page.ask(ROADWORKS) == "failed"
+        assert page.ask(ROADWORKS) == "ready"
+        wait_until(lambda: server.get("/ready").status == 503)
+        answering = [one for one in server.programs() if b"maker" not in words_of(one)]
+        for one in answering:
+            os.kill(one, signal.SIGKILL)
+        wait_until(lambda: not any(map(is_running, answering)))
+        assert page.ask(UNMATCHED) == "failed"
         assert "The files of the map aren't those that are served" in page.text("#problem")
         server.signal(signal.SIGHUP)
         wait_until(lambda: "read anew" in server.log())

@@ -1,14 +1,11 @@
 """Trials by hand: what another sender's map and references have, and the lines around a reference."""
 
-import numpy as np
 import pytest
 import random
 from collections.abc import Sequence
 
-from olr.errors import ToolError
 from olr.model.answers import ReferencePoint
 from olr.model.road_map import Ban, Line, Node, Position, RoadMap
-from olr.near_paths.streets import Lines, Streets
 from olr.trials.changing import Spreads, changed_points
 from olr.trials.differing import Difference, differing, without_lines
 from olr.trials.encoder import Lines as Known
@@ -78,13 +75,3 @@ def test_points_of_a_path(legs: int, points: int | None) -> None:
     known = Known(map_of([line(id, id, id + 1) for id in ids]))
     found = points_of_legs(known, [*([id, id + 1] for id in ids[:-1]), ids[-1:]])
     assert (None if found is None else len(found)) == points
-
-
-def test_a_line_that_isnt_near() -> None:
-    """Lines are named by their ranks, in the order of their ids."""
-    columns = [np.array([9, 5]), *[np.array([1, 2])] * 4]
-    streets = Streets(Lines(*columns), np.zeros((2, 0), dtype=np.int64))
-    assert [streets.rank_of(5), streets.rank_of(9)] == [0, 1]
-    for id in (1, 7, 10):
-        with pytest.raises(ToolError, match=f"line {id} isn't among the lines"):
-            streets.rank_of(id)

@@ -15,6 +15,8 @@ from conftest import OF_PROGRAM, REFERENCE, TOP, Program, Tools
 from feeds import data_of
 from olr.confidence.likeness import Range
 from olr.errors import ToolError
+from olr.model.fault import TOO_LARGE
+from olr.pages.view import scene
 from olr.pages.view.page import html_of
 from olr.pages.view.scene import scene_of
 from olr.tools import run
@@ -368,3 +370,32 @@ def test_runs_that_fail(
     ended = tools.run("view", *words, "--map", folder)
     assert ended.returncode == 1 and shown in ended.stderr and ended.stderr.count("\n") == 1
     assert sorted(os.listdir(folder)) == ["lines.csv", "nodes.csv"]
+
+
+def test_a_store_without_room_for_what_lies_around(
+    program: Program, browser: Browser, folder: Path, monkeypatch: pytest.MonkeyPatch
+) -> None:
+    """The place is drawn, without the lines around it and other paths."""
+
+    def refuse(*_: object, **__: object) -> None:
+        raise olr.Fault(TOO_LARGE)
+
+    with olr.Map(folder, program=program.path) as asked:
+        assert scene_of(ROADWORKS, asked)["lines"]
+        monkeypatch.setattr(asked, "lines", refuse)
+        monkeypatch.setattr(scene, "drawn_legs", refuse)
+        drawn = scene_of(ROADWORKS, asked)
+    assert [drawn[name] for name in ("lines", "cut", "more", "notes", "others")] == [
+        [],
+        0,
+        True,
+        [],
+        [],
+    ]
+    page = folder / "page.html"
+    page.write_text(html_of(drawn))
+    browser.open(page)
+    assert browser.value("document.querySelector('#cut').innerText") == (
+        "More lines further out aren't drawn."
+    )
+    assert count(browser, ".entry") == 2 and browser.errors == []

@@ -112,3 +112,9 @@ def _answered(line: RawLine) -> RawLine:
     if line.fault is not None:
         raise Fault(line.fault)
     return line
+
+
+def drawn_legs(asked: Answering, ref: str, at: str) -> bytes:
+    """The GeoJSON of the legs of a matching by its cursor, as the program has it. Raises as `Map.legs`."""
+    words = (*asked._words, "--format", "geojson")
+    return asked._line(Asked("legs", words), ref, "--at", at).answer

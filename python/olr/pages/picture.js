@@ -70,6 +70,7 @@ function pictureOf({ map: place, panel, tiles = null, onChoose = () => {} }) {
   let scene = null;
   let spots = [];
   let legs = [];
+  let others = [];
   let ranked = [];
   let chosen = -1;
 
@@ -178,8 +179,20 @@ function pictureOf({ map: place, panel, tiles = null, onChoose = () => {} }) {
     }
   };
   const line = (path, kind, style) => path && path.length > 1 && L.polyline(path, { className: kind, lineCap: "butt", interactive: false, ...style }).addTo(shown);
-  // Other paths of the first entry: the scenes of many references have none.
-  const others = () => scene.others || [];
+  // Where other paths of the first entry lie apart from those of their legs: the scenes of many references have none.
+  const apart = ({ leg, other }) => {
+    const steps = (path) => path.slice(1).map((spot, index) => [path[index], spot]);
+    const common = new Set(steps(leg).map(String));
+    const stretches = [];
+    let isApart = false;
+    for (const step of steps(other)) {
+      const wasApart = isApart;
+      isApart = !common.has(String(step));
+      if (isApart && !wasApart) stretches.push([step[0]]);
+      if (isApart) stretches.at(-1).push(step[1]);
+    }
+    return stretches;
+  };
   const draw = () => {
     shown.clearLayers();
     ranked.flat().forEach((marker) => marker.getElement() && marker.getElement().classList.remove("chosen"));
@@ -189,7 +202,7 @@ function pictureOf({ map: place, panel, tiles = null, onChoose = () => {} }) {
       line(entry.inner, "casing", { weight: 9 });
       line(entry.inner, "inner", { weight: 6 });
       line(entry.route, "route", { weight: 2, dashArray: "7 5" });
-      if (chosen === 0) others().forEach((path) => line(path, "other", { weight: 5, dashArray: "8 4" }));
+      if (chosen === 0) others.forEach((path) => line(path, "other", { weight: 5, dashArray: "8 4" }));
       for (const end of entry.ends) L.circleMarker(end, { className: "end", radius: 6, weight: 2, fillOpacity: 1, interactive: false }).addTo(shown);
       if (entry.spot) L.marker(entry.spot, { icon: L.divIcon({ className: "star", html: "&#9733;", iconSize: [30, 30] }), interactive: false, keyboard: false }).addTo(shown);
       entry.ranks.forEach((rank, index) => {
@@ -275,7 +288,7 @@ function pictureOf({ map: place, panel, tiles = null, onChoose = () => {} }) {
     ["the outer part: the location lies within it", '<path d="M2 10h42" class="of-outer" stroke-width="16"/>', () => scene.entries.some((entry) => entry.outer)],
     ["the inner part: the location covers it", '<path d="M2 10h42" class="of-casing" stroke-width="9"/><path d="M2 10h42" class="of-inner" stroke-width="6"/>', () => scene.entries.some((entry) => entry.outer)],
     ["the path between the candidates", '<path d="M2 10h42" class="of-route" stroke-width="2" stroke-dasharray="7 5"/>', () => scene.entries.length],
-    ["another path, as short or nearly so", '<path d="M2 10h42" class="of-other" stroke-width="5" stroke-dasharray="8 4"/>', () => others().length],
+    ["another path, as short or nearly so", '<path d="M2 10h42" class="of-other" stroke-width="5" stroke-dasharray="8 4"/>', () => others.length],
     ["lines of the map, the wider the more important", '<path d="M2 6h42" stroke="#6f6f6f" stroke-width="6"/><path d="M2 16h42" stroke="#8a8a8a" stroke-width="2.5"/>'],
   ];
   const fillSamples = () => {
@@ -316,7 +329,7 @@ function pictureOf({ map: place, panel, tiles = null, onChoose = () => {} }) {
     const seen = L.latLngBounds(spots);
     scene.entries.forEach((entry) => entry.route.forEach((spot) => seen.extend(spot)));
     near().forEach((one) => seen.extend(one.spot));
-    others().flat().forEach((spot) => seen.extend(spot));
+    others.flat().forEach((spot) => seen.extend(spot));
     map.fitBounds(seen, { padding: [70, 70], maxZoom: 18, animate: false });
     isWhole = true;
   };
@@ -353,7 +366,7 @@ function pictureOf({ map: place, panel, tiles = null, onChoose = () => {} }) {
   const clear = () => {
     scene = null;
     chosen = -1;
-    [spots, legs, ranked] = [[], [], []];
+    [spots, legs, others, ranked] = [[], [], [], []];
     layers.forEach((layer) => layer.clearLayers());
     panel.querySelectorAll("#verdict, #verdict-text, #looking, #reference, #command, #offsets, #cut").forEach((element) => { element.textContent = ""; });
     ["notes", "entries", "probability", "more-entries", "reasons", "remedies", "points"].forEach((id) => fill(id, []));
@@ -363,6 +376,7 @@ function pictureOf({ map: place, panel, tiles = null, onChoose = () => {} }) {
     clear();
     scene = next;
     spots = scene.points.map((point) => point.spot);
+    others = (scene.others || []).flatMap(apart);
     fillPanel();
     map.invalidateSize({ animate: false });
     map.setView(spots[0], 16, { animate: false });

@@ -1,5 +1,5 @@
-"""A process that makes GeoJSON, scenes and rows. It has read the map, and forks a process for each that works: so they share what was read, each can be
-killed, and gives all of its memory back. `tasks.py` says what is asked of it.
+"""A process that makes GeoJSON, scenes and rows of answers. It knows where the lines of the map came from, and forks a process for each that works: so
+they share what was read, each can be killed, and gives all of its memory back. `tasks.py` says what is asked of it.
 """
 
 import gc
@@ -16,8 +16,9 @@ from typing import NoReturn
 from olr.asking.ending import end_with, is_left
 from olr.confidence.confidence import Confidence
 from olr.errors import ToolError
+from olr.matching.rows import Ground
 from olr.serving import feature_texts, row_texts, scene_texts
-from olr.serving.ground import Ground, Grounds, StoreGround
+from olr.serving.ground import Grounds
 from olr.serving.limits import MIB, MOST_MADE
 from olr.serving.tasks import (
     MOST_MESSAGE,
@@ -30,9 +31,7 @@ from olr.serving.tasks import (
 )
 
 MOST_MEMORY = 128 * MIB
-"""Bytes that one process may take besides what it shares. GeoJSON of 1,000 matchings of 24 points on the largest map takes 40 MiB."""
-MOST_OF_STORE = 384 * MIB
-"""So many of a store: it reads the lines around a place by itself, as many as the largest map has at most."""
+"""Bytes that one process may take besides what it shares."""
 PAGE = resource.getpagesize()
 
 
@@ -52,21 +51,18 @@ def main(_: list[str]) -> int:
 
 def _fork(control: socket.socket, asked: socket.socket, grounds: Grounds, map: MapVersion) -> None:
     """Forks a process that makes what is asked for on a socket."""
-    try:
-        ground: Ground | ToolError = grounds.of(map)
-    except ToolError as error:
-        ground = error
+    ground = grounds.of(map)
     gc.freeze()
     if os.fork() == 0:
         control.close()
         _work(asked, ground)
 
 
-def _work(asked: socket.socket, ground: Ground | ToolError) -> NoReturn:
+def _work(asked: socket.socket, ground: Ground) -> NoReturn:
     """Makes what is asked for, until the server has closed the socket."""
     try:
         end_with(asked.fileno())
-        _limit(MOST_OF_STORE if isinstance(ground, StoreGround) else MOST_MEMORY, MOST_MADE)
+        _limit(MOST_MEMORY, MOST_MADE)
         while descriptors := socket.recv_fds(asked, 1, 1)[1]:
             asked.send(pickle.dumps(_made(descriptors[0], ground)))
     except ConnectionError:
@@ -88,14 +84,12 @@ def _limit(memory: int, size: int) -> None:
     resource.setrlimit(resource.RLIMIT_FSIZE, (size, size))
 
 
-def _made(descriptor: int, ground: Ground | ToolError) -> Exception | None:
+def _made(descriptor: int, ground: Ground) -> Exception | None:
     """Makes the answer to the task of a file in its place. Answers why there is none."""
     try:
         with open(descriptor, "r+b") as file:
             file.seek(0)
             task = pickle.load(file)
-            if isinstance(ground, ToolError):
-                raise ground
             file.seek(0)
             _make(task, ground, file)
             # Cut off before, its blocks would be written to the disk: ext4 takes that for a file which is replaced.
@@ -113,13 +107,13 @@ def _made(descriptor: int, ground: Ground | ToolError) -> Exception | None:
 def _make(task: Task, ground: Ground, file: BufferedRandom) -> None:
     """Writes the answer to a task. Raises `ToolError`, `OSError` and `MemoryError`."""
     if isinstance(task, FeaturesTask):
-        feature_texts.write(task, ground.network, file)
+        feature_texts.write(task, ground, file)
     elif isinstance(task, SceneTask):
-        file.write(scene_texts.text_of(task, ground))
+        file.write(scene_texts.text_of(task))
     elif isinstance(task, AroundTask):
         file.write(scene_texts.with_surroundings(task))
     elif isinstance(task, LinesTask):
         if task.form == "rows":
             file.write(row_texts.lines_of(task.some, task.judged_by))
         else:
-            file.write(feature_texts.lines_of(task.some, ground.network, task.judged_by))
+            file.write(feature_texts.lines_of(task.some, ground, task.judged_by))

@@ -1,5 +1,5 @@
-"""Asks a maker, a process of the server's own, for what needs the geometries of a map: GeoJSON, scenes and rows. So the server has none of
-them in its memory, and waits for none. `tasks.py` says how it is asked.
+"""Asks a maker, a process of the server's own, for what is made of answers: GeoJSON, scenes and rows. So the server waits for none of that, and
+its memory has none of it. `tasks.py` says how it is asked.
 """
 
 import asyncio

@@ -3,6 +3,7 @@
 import json
 from typing import IO, NamedTuple
 
+from olr.asking.exchange import Asked
 from olr.model.box import Box
 from olr.model.fault import Fault
 from olr.model.profiles import PROFILE
@@ -49,23 +50,36 @@ class Scenes(NamedTuple):
                 places,
                 page,
                 why,
-                len(asking.versions) == 1,
                 self.served.map_name,
                 self.tiles,
             )
             with await self.makers.made(asking.map(), task) as file:
-                box, scene = Box(*json.loads(file.readline())), file.read()
-            around = AroundTask(scene, await asking.within(box))
+                (box, cursor), scene = json.loads(file.readline()), file.read()
+            legs = None
+            if cursor is not None:
+                legs = await asking.answer_or_fault(self._legs(options, text, cursor))
+            lines = await asking.within(Box(*box))
+            around = AroundTask(scene, legs, lines, asked.numbers()["lowest"])
             return await self.makers.made(asking.map(), around)
 
         return await of_one_edition(self.served, ask)
 
     def _question(self, what: What, options: Options, text: bytes) -> Question:
         """A question about a reference, with those of the options that it has, and with shapes."""
+        asked = self._asked(what, options)
+        return Question(shaped(listing_of(asked) if what == "places" else asked), text, None)
+
+    def _legs(self, options: Options, text: bytes, cursor: str) -> Question:
+        """The question about the legs of a matching, as GeoJSON."""
+        tolerances = self._asked("candidates", options).words
+        words = (*tolerances, "--at", cursor, "--format", "geojson")
+        return Question(Asked("legs", words), text, None)
+
+    def _asked(self, what: What, options: Options) -> Asked:
+        """A question with those of the options that it has."""
         names = {PROFILE, *TOLERANCES, *NUMBERS[what]}
         own = {name: value for name, value in options.items() if name in names}
-        asked = asked_of(what, own, self.limits.look)
-        return Question(shaped(listing_of(asked) if what == "places" else asked), text, None)
+        return asked_of(what, own, self.limits.look)
 
 
 def _fits(places: bytes | Fault, page: bytes | Fault) -> bool:

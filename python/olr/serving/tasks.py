@@ -49,7 +49,7 @@ class FeaturesTask(NamedTuple):
 
 
 class SceneTask(NamedTuple):
-    """What the page draws of a reference: a line of JSON with the box around it, and then the scene."""
+    """What the page draws of a reference: a line of JSON with the box around it and the cursor of its first entry, and then the scene."""
 
     judged_by: JudgedBy
     reference: str
@@ -60,18 +60,20 @@ class SceneTask(NamedTuple):
     page: bytes | Fault
     why: bytes | None
     """None where it fits somewhere."""
-    has_bans: bool
-    """Whether all answers are of the version of the map, and not only of its nodes and lines."""
     map_name: str | None
     tiles: str | None
 
 
 class AroundTask(NamedTuple):
-    """The whole scene: with what lies around it."""
+    """The whole scene: with other paths of the first entry, and with what lies around it."""
 
     scene: bytes
+    legs: bytes | Fault | None
+    """GeoJSON of the legs of the first entry; None where there is none."""
     lines: bytes | Fault
     """The answer about its box."""
+    lowest: int
+    """The tolerance with which it was asked."""
 
 
 class LinesTask(NamedTuple):

@@ -34,3 +34,6 @@ function filledFault(text, values) {
   const plain = text.replaceAll("`", "");
   return values.reduce((filled, [place, word]) => filled.replace(new RegExp(`\\b${place}\\b`, "g"), () => word), plain);
 }
+
+// What is wrong with what the user gave, in one line.
+class ToolError extends Error {}

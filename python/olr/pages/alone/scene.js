@@ -1,22 +1,19 @@
 "use strict";
 // All that the page draws of a reference, as data for `pictureOf`. Positions are [latitude, longitude] in degrees, ids are texts.
 //
-//   const scene = sceneOf({ reference, show, candidates, places, page, why, network, streets, judgement, confidence, note, numbers, mapName,
-//     tiles, tables });
-//   Object.assign(scene, linesDrawn(lines));
+//   const scene = sceneOf({ reference, show, candidates, places, page, why, judgement, confidence, note, numbers, mapName, tiles, tables });
+//   Object.assign(scene, notesOf(legs, numbers.lowest), linesDrawn(lines));
 //
-// The lines around are those of an answer to `lines` about `boxOf(scene)`.
+// The answer to `legs` is about the matching of the first entry, `scene.entries[0].cursor`, and that to `lines` about `boxOf(scene)`.
 //
 // `reference` is its text, and `show` what it says. `candidates`, `places`, `page` (of `match`) and `why` are the program's answers with shapes,
 // as `exactJson` reads them, or else the texts of faults; `places` was asked with the `longList` of `tables`, and `why` is null where it fits
-// somewhere (`fitsSomewhere`). `streets` are those of `Streets.of(network)`, which are made once. `judgement` is that of the places,
-// as `judging.js` has it, or null if `places` is a fault; by `confidence`, which is null where there are no probabilities: then `note` says
-// why, or is an empty text. `numbers` are all tolerances and the numbers of `places`, by the names of options: what was asked for, not the
-// long list. `mapName` is the name of the map's folder in commands, or null. `tables` are those of `tables.py`.
-//
-// Throws a ToolError if the map hasn't a line of an answer.
+// somewhere (`fitsSomewhere`). `judgement` is that of the places, as `judging.js` has it, or null if `places` is a fault; by `confidence`, which
+// is null where there are no probabilities: then `note` says why, or is an empty text. `numbers` are all tolerances and the numbers of `places`,
+// by the names of options: what was asked for, not the long list. `mapName` is the name of the map's folder in commands, or null. `tables` are
+// those of `tables.py`.
 function sceneOf(given) {
-  const { reference, show, page, why, network, streets, confidence = null, note = "", numbers, mapName = null, tiles = null, tables } = given;
+  const { reference, show, page, why, confidence = null, note = "", numbers, mapName = null, tiles = null, tables } = given;
   const scene = {
     reference: reference.trim(),
     kind: show.kind.replaceAll("-", " "),
@@ -34,7 +31,6 @@ function sceneOf(given) {
   if (!isFault(given.places) && !isFault(page)) addPlaces(scene, given.judgement, page, confidence);
   else scene.verdict.text = faultSentence(isFault(given.places) ? given.places : page, tables);
   if ((why ?? null) !== null) scene.why = whyOfScene(why, tables);
-  Object.assign(scene, notesOf(firstMatching(scene, given), show, network, streets, numbers.lowest));
   scene.command = commandText(scene.why === null ? "places" : "why", scene.reference, mapName, { ...numbers, ...tables.longList }, tables);
   if (note && scene.entries.length) scene.probability = [`${note[0].toUpperCase()}${note.slice(1)}.`];
   scene.tiles = tiles;
@@ -148,11 +144,4 @@ function spotDrawn([lon, lat]) {
 // The spots of a shape as they are drawn; null where there is none.
 function pathDrawn(shape) {
   return (shape ?? null) === null ? null : shape.map(spotDrawn);
-}
-
-// The matching of the first entry, if there is one.
-function firstMatching(scene, { places, page }) {
-  if (!scene.entries.length) return null;
-  const { cursor } = scene.entries[0];
-  return [...places.places.map((place) => place.matching), ...page.matchings].find((one) => one.cursor === cursor);
 }

@@ -7,16 +7,15 @@ from olr.model.sources import Sources
 
 SOURCES = "sources.json"
 """What the page calls it."""
-NONE = -1
-"""Stands for a line without a source."""
 
 
 def sources_text(sources: Sources, lines: Iterable[int]) -> str:
-    """The JSON of an object: `roads` has each source with its name once, and `lines` for each line, in the order of the map's file, the
-    index of its road there, or -1. Raises `ToolError` if the sources can't be read."""
-    roads: dict[tuple[str, str], int] = {}
-    found = [
-        NONE if one is None else roads.setdefault((one.source, one.name), len(roads))
-        for one in map(sources.get, lines)
-    ]
-    return json.dumps({"roads": list(roads), "lines": found}, separators=(",", ":"))
+    """The JSON of a list with each source, its name, and those of these lines that came from it. Raises `ToolError` if the sources can't be
+    read."""
+    roads: dict[tuple[str, str], list[int]] = {}
+    for line in lines:
+        origin = sources.get(line)
+        if origin is not None:
+            roads.setdefault((origin.source, origin.name), []).append(line)
+    found = [[*road, its_lines] for road, its_lines in roads.items()]
+    return json.dumps(found, separators=(",", ":"))

@@ -15,7 +15,7 @@ const QUESTIONS_OF_PROGRAM = ["candidates", "match", "places", "why"];
 // Addresses whose answers may have more than one piece.
 const LISTS = ["rows", "batch/places"];
 
-// What questions are answered by: { program, network, streets, sources, questions, tables, confidence, map, tiles }.
+// What questions are answered by: { program, sources, questions, tables, confidence, map, tiles }.
 let known = null;
 // Why there are none, if the start failed.
 let broken = null;
@@ -24,13 +24,10 @@ const dropped = new Set();
 // ---- the start
 async function begun({ packed, data }) {
   const files = await unpacked(packed);
-  const text = (name) => (files[name] ? new TextDecoder().decode(files[name]) : null);
   const { "olr.wasm": module, "sources.json": roads = null, ...ofMap } = files;
   const program = onPart(await Program.of(module, ofMap), data.map.points);
-  const network = Network.of({ nodes: text("nodes.csv"), lines: text("lines.csv"), bans: text("bans.csv") });
   const { questions, tables, confidence, map, tiles } = data;
-  const sources = sourcesOf(roads, network);
-  return { program, network, streets: Streets.of(network), sources, questions, tables, confidence, map, tiles };
+  return { program, sources: sourcesOf(roads), questions, tables, confidence, map, tiles };
 }
 
 // ---- addresses
@@ -78,24 +75,28 @@ function throwing({ text, fault }) {
 // ---- one reference
 function sceneAt(options) {
   const { ref, numbers } = questionOf("places", options, known.questions, {});
-  const { program, network, streets, confidence, questions, tables, map, tiles } = known;
+  const { program, confidence, questions, tables, map, tiles } = known;
   const tolerances = Object.fromEntries(Object.keys(questions.tolerances).map((name) => [name, numbers[name]]));
   const text = recordText(ref);
-  const ask = (what, others = {}) => {
-    const { text: answer, fault } = program.answer(what, { ...tolerances, ...others, shape: true }, text);
+  const ask = (what, others) => {
+    const { text: answer, fault } = program.answer(what, { ...tolerances, ...others }, text);
     return fault === null ? exactJson(answer) : fault;
   };
+  const drawn = (what, others = {}) => ask(what, { ...others, shape: true });
   const show = exactJson(throwing(program.show(text)));
   const { judging, note } = judgingBy(confidence, numbers);
   const ofPlaces = Object.fromEntries(Object.keys(questions.numbers.places).map((name) => [name, numbers[name]]));
-  const [candidates, places, page] = [ask("candidates"), ask("places", listing(ofPlaces)), ask("match", defaultsOf("match"))];
-  const why = fitsSomewhere(places, page) ? null : ask("why", defaultsOf("why"));
+  const [candidates, places, page] = [drawn("candidates"), drawn("places", listing(ofPlaces)), drawn("match", defaultsOf("match"))];
+  const why = fitsSomewhere(places, page) ? null : drawn("why", defaultsOf("why"));
   const judgement = typeof places === "string" ? null : judged(places, judging);
   const scene = sceneOf({
-    reference: ref, show, candidates, places, page, why, network, streets, judgement, confidence: judging.confidence, note, numbers,
-    mapName: map.folder, tiles, tables,
+    reference: ref, show, candidates, places, page, why, judgement, confidence: judging.confidence, note, numbers, mapName: map.folder, tiles,
+    tables,
   });
-  return Object.assign(scene, linesDrawn(exactJson(throwing(program.around(boxOf(scene))))));
+  const [first = null] = scene.entries;
+  const legs = first && ask("legs", { at: first.cursor, format: "geojson" });
+  const lines = exactJson(throwing(program.around(boxOf(scene))));
+  return Object.assign(scene, notesOf(isFault(legs) ? null : legs, numbers.lowest), linesDrawn(lines));
 }
 
 // As `places` are asked for whose answers are judged.

@@ -1,74 +1,50 @@
-"""What the page says of the first entry besides: other paths of its legs, in sentences and as geometries."""
+"""What the page says of the first entry besides: other paths of its legs, in sentences and as paths."""
 
-from collections.abc import Callable, Sequence
-from typing import TYPE_CHECKING
+import json
+from collections.abc import Mapping
+from typing import Any
 
-from olr.errors import ToolError
-from olr.geometry.network import Network
-from olr.model.answers import Matching, Page, Places, Reference
-from olr.near_paths.notes import LegNote, apart_from, legs_of, near_paths
-from olr.near_paths.streets import Streets
+from olr.pages.view.paths import Path
 from olr.pages.view.sentences import metres
 from olr.pages.view.surroundings import Scene
 
-if TYPE_CHECKING:
-    from olr.pages.view.scene import Answered
 
-
-def notes_of(
-    scene: Scene,
-    answered: "Answered",
-    network: Network,
-    lowest: int,
-    streets: Callable[[Reference, Matching], Streets],
-) -> Scene:
-    """Two members of a scene: `notes`, sentences on its first entry, and `others`, the stretches of other paths that its path leaves out.
-    Both are empty where nothing is known: the map can't be read again, or has too many lines around.
-
-    `lowest` is the tolerance with which it was asked, and `streets` gives the lines and bans for the matching of a reference: where it
-    raises `ToolError` nothing is known.
+def notes_of(answer: bytes | None, lowest: int) -> Scene:
+    """Two members of a scene, of the program's answer to `legs` as GeoJSON: `notes`, sentences on the legs in their order, and `others`, each
+    other path with that of its leg. Both are empty where nothing is known, and the answer is None. `lowest` is the tolerance with which it
+    was asked.
     """
-    matching = _first_of(scene, answered)
-    if matching is None:
-        return {"notes": [], "others": []}
-    reference = answered.reference
-    try:
-        notes = near_paths(matching, reference, streets(reference, matching), lowest)
-        stretches = [
-            stretch
-            for note, pieces in zip(notes, legs_of(matching))
-            if note.equal is not None
-            for stretch in apart_from(note.equal.pieces, pieces)
-        ]
-        others = [network.path(stretch)[:, ::-1].tolist() for stretch in stretches]
-    except ToolError:
-        return {"notes": [], "others": []}
-    return {"notes": note_texts(notes, lowest), "others": others}
+    notes: list[str] = []
+    drawn: list[dict[str, Path]] = []
+    features = [] if answer is None else json.loads(answer)["features"]
+    others = {_leg_of(one): one for one in features if one["properties"]["part"] == "other"}
+    for one in features:
+        if one["properties"]["part"] == "leg":
+            other = others.get(_leg_of(one))
+            if other is not None:
+                drawn.append({"leg": _path(one), "other": _path(other)})
+            notes += _texts(one["properties"], other and other["properties"], lowest)
+    return {"notes": notes, "others": drawn}
 
 
-def note_texts(notes: Sequence[LegNote], lowest: int) -> list[str]:
-    """Sentences on the legs of a matching, in their order. `lowest` is the tolerance with which they were asked for."""
-    texts = []
-    for number, note in enumerate(notes, 1):
-        if note.equal is not None:
-            longer = note.equal.longer
-            how = f"{metres(longer)} longer" if longer else "as short"
-            texts.append(f"Leg {number}: another path is {how}.")
-        if note.shorter is not None:
-            shorter = metres(note.shorter.shorter)
-            who = f"the reference and --lowest {lowest} allow" if lowest else "the reference allows"
-            texts.append(
-                f"Leg {number}: a road of class {note.shorter.class_} would be {shorter} shorter; {who} class {note.limit} or better."
-            )
+def _leg_of(feature: Mapping[str, Any]) -> Any:
+    """The number of the leg that a feature is of."""
+    return feature["properties"]["leg"]
+
+
+def _texts(leg: Mapping[str, Any], other: Mapping[str, Any] | None, lowest: int) -> list[str]:
+    """Sentences on a leg, and on another path of it, if there is one."""
+    number, shorter, texts = leg["leg"], leg["shorter"], []
+    if other is not None:
+        how = f"{metres(other['longer'])} longer" if other["longer"] else "as short"
+        texts.append(f"Leg {number}: another path is {how}.")
+    if shorter is not None:
+        who = f"the reference and --lowest {lowest} allow" if lowest else "the reference allows"
+        road = f"a road of class {shorter['class']} would be {metres(shorter['by'])} shorter"
+        texts.append(f"Leg {number}: {road}; {who} class {leg['limit']} or better.")
     return texts
 
 
-def _first_of(scene: Scene, answered: "Answered") -> Matching | None:
-    """The matching of the first entry, if there is one."""
-    if not scene["entries"]:
-        return None
-    places, page = answered.places, answered.page
-    assert isinstance(places, Places) and isinstance(page, Page)
-    matchings = [*(place.matching for place in places.places), *page.matchings]
-    cursor = scene["entries"][0]["cursor"]
-    return next(one for one in matchings if one.cursor == cursor)
+def _path(feature: Mapping[str, Any]) -> Path:
+    """The line of a feature as it is drawn."""
+    return [[lat, lon] for lon, lat in feature["geometry"]["coordinates"]]

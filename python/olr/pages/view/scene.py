@@ -1,10 +1,10 @@
 """All that a page draws, as data for its script. Positions are `[latitude, longitude]` in degrees."""
 
 from collections.abc import Iterator, Mapping, Sequence
-from functools import partial
 from typing import Any, NamedTuple
 
 from olr.asking.once import decode
+from olr.client.answering import drawn_legs
 from olr.client.map_client import Map
 from olr.confidence.confidence import Confidence
 from olr.confidence.judged import Judged, JudgedPlace, Judging, judged
@@ -14,7 +14,6 @@ from olr.model.asked_with import command_text
 from olr.model.fault import Fault
 from olr.model.pieces import Spot
 from olr.model.questions import What, listing
-from olr.near_paths.notes import streets_of
 from olr.pages.view import sentences
 from olr.pages.view.notes import notes_of
 from olr.pages.view.paths import path_drawn, spot_drawn
@@ -46,9 +45,23 @@ def scene_of(text: str, asked: Map, confidence: Confidence | None = None, **numb
         raise answered.why
     (judgement,) = judged([answered.places], judging)
     scene = scene_of_answers(answered, judgement, confidence)
-    network, lowest = asked.network(), asked.tolerances["lowest"]
-    scene |= notes_of(scene, answered, network, lowest, partial(streets_of, asked))
-    return scene | lines_drawn(lines_around(asked, box_of(scene)))
+    notes = notes_of(_legs(text, asked, scene), asked.tolerances["lowest"])
+    return scene | notes | lines_drawn(lines_around(asked, box_of(scene)))
+
+
+def _legs(text: str, asked: Map, scene: Scene) -> bytes | None:
+    """What the program says of the legs of the first entry; None where there is none, or it says nothing."""
+    cursor = first_cursor(scene)
+    try:
+        return None if cursor is None else drawn_legs(asked, text, cursor)
+    except Fault:
+        return None
+
+
+def first_cursor(scene: Scene) -> str | None:
+    """The cursor of the first entry, if there is one."""
+    cursor: str | None = scene["entries"][0]["cursor"] if scene["entries"] else None
+    return cursor
 
 
 def answers_about(

@@ -1,34 +1,32 @@
-"""Other paths of a matching where they are shown: in scenes, on pages, and by a server, which has the streets of the version it serves."""
+"""Other paths of a matching where they are shown: in scenes, on pages, and by a server."""
 
-import asyncio
 import json
 import pytest
 import signal
 from pathlib import Path
 
 import olr
+from blocks import block
 from browser import Browser
 from conftest import REFERENCE, Program, Tools
 from olr.pages.view.scene import scene_of
 from olr.regions.making import make_store_of_folder
-from olr.serving.folder_map import FolderMap
-from olr.serving.ground import Grounds
-from olr.serving.limits import Limits
-from olr.serving.queries import asked_of
-from olr.serving.scene_texts import streets_for
-from olr.serving.served import Asking
-from olr.serving.tasks import JudgedBy, MapVersion, SceneTask
 from servers import path_of, serving, wait_until
-from test_near_paths import block
+
+
+def along(lat: float) -> list[list[float]]:
+    """A path past the block, which has this latitude beside it."""
+    return [[0.0, 0.0], [0.0, 0.003], [lat, 0.0035], [0.0, 0.004], [0.0, 0.008]]
 
 
 def test_the_scene(program: Program, tmp_path: Path) -> None:
-    """The stretch of the other path that the first entry's path leaves out, by latitude and longitude. Without one there is nothing."""
+    """The other path of a leg of the first entry, and the leg, by latitude and longitude. Without one there is nothing."""
     drawn = block()
     with olr.Map(drawn.drawing.write(tmp_path / "map"), program=program.path) as asked:
         scene = scene_of(drawn.text, asked)
         assert scene["notes"] == ["Leg 1: another path is as short."]
-        assert scene["others"] == [[[0.0, 0.003], [-0.0005, 0.0035], [0.0, 0.004]]]
+        (drawn_others,) = scene["others"]
+        assert drawn_others == {"leg": along(0.0005), "other": along(-0.0005)}
         scene = scene_of(REFERENCE, asked)
         assert (scene["notes"], scene["others"], scene["entries"]) == ([], [], [])
 
@@ -41,12 +39,15 @@ def test_the_page(program: Program, tools: Tools, browser: Browser, tmp_path: Pa
     ended = tools.run("view", drawn.text, "--map", folder, "--out", page)
     assert (ended.returncode, ended.stderr) == (0, "")
     drawn_paths = "document.querySelectorAll('path.other').length"
+    corners = "document.querySelector('path.other').getAttribute('d').split('L').length"
     browser.open(page)
     assert browser.value("document.querySelector('#notes').innerText") == (
         "Leg 1: another path is 0.4 m longer."
     )
     legend = "document.querySelector('#samples').innerText.includes('another path, as short')"
     assert browser.value(legend)
+    # Of the other path that stretch alone is drawn which the path itself leaves out.
+    assert browser.value(corners) == 3
     for key, expected in (("1", 1), ("2", 0), ("1", 1), ("0", 0)):
         browser.press(key)
         assert browser.value(drawn_paths) == expected
@@ -71,7 +72,7 @@ def test_the_scene_of_a_server(program: Program, tmp_path: Path, kind: str) -> N
             assert bool(scene["notes"]) == (text != REFERENCE)
         scene = json.loads(server.get(path_of("scene", drawn.text, lowest=0)).body)
         assert scene["notes"] == ["Leg 1: another path is as short."]
-        assert scene["others"] == [[[0.0, 0.003], [0.0001, 0.0035], [0.0, 0.004]]]
+        assert scene["others"] == [{"leg": along(0.0005), "other": along(0.0001)}]
 
 
 def test_a_server_says_which_tolerance_it_was_asked_with(program: Program, tmp_path: Path) -> None:
@@ -99,48 +100,3 @@ def test_other_bans_are_served(program: Program, tmp_path: Path) -> None:
     assert before.pop("notes") == ["Leg 1: another path is as short."] and before.pop("others")
     assert (after.pop("notes"), after.pop("others")) == ([], [])
     assert before["entries"] == after["entries"]
-
-
-def read_map_of(folder: Path) -> FolderMap:
-    """A map as it is served once a process has read it."""
-
-    async def read() -> FolderMap:
-        served = FolderMap(folder, 1, Limits())
-        edition = served.pool.edition
-        await edition.keep(await edition.found())
-        return served
-
-    return asyncio.run(read())
-
-
-def test_streets_are_those_of_the_version_that_is_served(program: Program, tmp_path: Path) -> None:
-    """They are made once. Where the files have changed before, or the answers are of several versions, there are none."""
-    drawn = block(bans=[(1, 2)])
-    folder = drawn.drawing.write(tmp_path / "map")
-    with olr.Map(folder, program=program.path) as asked:
-        matching = asked.match(drawn.text).matchings[0]
-    about = {"lowest": 0}, olr.decode(drawn.text, program=program.path), matching
-    asking = Asking(read_map_of(folder))
-    version = read_map_of(folder).pool.edition.files.version
-    assert version is not None
-    asking.versions.add(version)
-    assert asking.map().version == version
-    grounds = Grounds()
-    streets = grounds.of(asking.map()).streets(*about)
-    assert streets.is_banned(0, 1) and not streets.is_banned(0, 3)
-    (folder / "bans.csv").write_text("from,to\n1,4\n")
-    assert grounds.of(asking.map()).streets(*about) is streets
-    with pytest.raises(olr.MapRefused):
-        Grounds().of(asking.map())
-    with pytest.raises(olr.MapRefused):
-        grounds.of(asking.map()._replace(version=version._replace(bans="0")))
-    assert grounds.of(asking.map()).streets(*about) is streets
-    judged_by = JudgedBy(asked_of("places", {}, 10), None)
-    task = SceneTask(judged_by, drawn.text, b"", b"", b"", b"", None, True, None, None)
-    _, reference, matching = about
-    ground = grounds.of(
-        MapVersion(tuple((folder / it) for it in ("nodes.csv", "lines.csv", "bans.csv")), version)
-    )
-    assert streets_for(task, ground, reference, matching) is streets
-    with pytest.raises(olr.MapRefused):
-        streets_for(task._replace(has_bans=False), ground, reference, matching)
