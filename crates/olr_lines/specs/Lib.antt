@@ -1,1 +1,3 @@
 pub mod LinesInBox
+pub mod Json
+pub mod GeoJson

@@ -5,6 +5,7 @@ ghost use Rattle.olr_road.specs.Windows.{IsWindowOf};
 ghost use Rattle.olr_lines.specs.LinesInBox.{AreFirst, lines_meeting};
 
 use crate::geo_box::GeoBox;
+use crate::line_count::LineCount;
 use olr_base::NoMemory;
 use olr_road::{BoundingBox, Map};
 use std::alloc::Global;
@@ -49,14 +50,15 @@ pub fn lines_in(
     alloc: Global,
     map: &Map,
     wanted: &GeoBox,
-    most: u32,
+    most: LineCount,
 ) -> Result<LinesInBox, NoMemory>
     ensures lines { IfOk result (AreFirst most (lines_meeting map.now.lines wanted.now)) }
     ensures ranks { IfOk result (λ found.
         All (λ rank. rank < length map.now.lines) found.ranks.items) }
 {
+    let most = most.lines() as usize;
     let mut ranks = all_in(alloc, map, wanted)?;
-    let more = ranks.len() > most as usize;
-    ranks.truncate(most as usize);
+    let more = ranks.len() > most;
+    ranks.truncate(most);
     Ok(LinesInBox { ranks, more })
 }
