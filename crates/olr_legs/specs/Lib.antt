@@ -1,0 +1,13 @@
+pub mod Avoiding
+pub mod GeoJson
+pub mod Json
+pub mod LegOnMap
+pub mod Legs
+pub mod Other
+pub mod Seeking
+pub mod Shorter
+pub mod Stretches
+pub mod Way
+pub mod Search
+pub mod Labels
+pub mod Departing
