@@ -1,6 +1,9 @@
 -- What a request asks for.
-use Rattle.std.specs.Prelude.{ℕ, ⊤, List, Option, None, option_map}
+use Rattle.std.specs.Prelude.{ℕ, ⊤, false, List, Option, None, option_map}
 use Rattle.std.specs.Borrow.{Bor}
+use Rattle.olr_report.specs.declared.route_part.RoutePart.TheVariants.{Route}
+use Rattle.olr_request.specs.declared.request.LegsRequest.{LegsRequest}
+use Rattle.olr_request.specs.declared.request.MatchRequest.{MatchRequest}
 use Rattle.olr_request.specs.declared.request.Pages.{Pages}
 use Rattle.olr_request.specs.declared.request.Pages.TheVariants.{All, One}
 use Rattle.olr_request.specs.declared.request.Request.{Request}
@@ -36,3 +39,17 @@ cursor_in (One cursor) = bytes_of cursor
 abbrev pub cursor_of : Request → Option (List ℕ)
 cursor_of (Match asked) = cursor_in asked.pages
 cursor_of other = None
+
+-- ---- the legs of one matching
+
+-- The request for the one matching behind the cursor of a request for legs, or for the first one. (A
+-- cursor is read and refused as that of such a request.)
+abbrev pub matching_request : LegsRequest → MatchRequest
+matching_request asked = record {
+  text = asked.text;
+  tolerances = asked.tolerances;
+  size = 1;
+  pages = One asked.at;
+  extras = record { detail = false; shape = false; part = Route };
+  format = asked.format;
+}

@@ -1,18 +1,22 @@
 //! Why a request wasn't answered.
 
 ghost use Rattle.std.specs.Prelude.{◌≡◌, Some};
+ghost use Rattle.olr_request.specs.declared.fault.Fault.TheVariants.{BadNear as FaultOfNear};
 ghost use Rattle.olr_request.specs.declared.fault.Fault.TheVariants.{BadNearest as FaultOfNearest};
 ghost use Rattle.olr_request.specs.declared.fault.Fault.TheVariants.{BadNumber as FaultOfNumber};
 ghost use Rattle.olr_request.specs.declared.fault.Fault.TheVariants.{BadPage as FaultOfPageSize};
 ghost use Rattle.olr_request.specs.declared.fault.Fault.TheVariants.{BadTolerance as FaultOfTolerance};
 ghost use Rattle.olr_request.specs.declared.fault.Fault.TheVariants.{NoMemory as OutOfMemory};
+ghost use Rattle.olr_places.specs.declared.limits.PlaceLimit.TheVariants.{Most};
 ghost use Rattle.olr_request.specs.Fault.{fault_of, fault_of_layers, fault_of_map, fault_of_page};
 ghost use Rattle.olr_request.specs.Fault.{fault_text, file_name, number_name};
 
+use crate::near_share::BadNearShare;
 use olr_base::NoMemory;
 use olr_binary::{Kind, Refused};
 use olr_candidates::{BadTolerance, LayersFault, Tolerance};
 use olr_keys::{BadPage, PageFault};
+use olr_lines::BadLineCount;
 use olr_map::{File, MapFault};
 use olr_places::{BadNumber, PlaceLimit};
 use olr_why::BadNearest;
@@ -72,9 +76,13 @@ pub enum Fault {
     /// The tolerance of this name is the first out of its range. `run` of `olr_app` never answers
     /// this, since its request can't hold such a number.
     BadTolerance(Tolerance),
-    /// The number of this name, which is one of those for places, is the first out of its range.
-    /// `run` of `olr_app` never answers this, nor the next two.
+    /// The number of this name is the first out of its range: one of those for places, or how many
+    /// lines are printed. `run` of `olr_app` never answers this, nor the next four.
     BadNumber(PlaceLimit),
+    /// The share by which another path of a leg may be longer isn't from 0 to 100 thousandths.
+    BadNear,
+    /// The box ends farther west or south than it begins.
+    BadBox,
     /// The number of lines nearest to a point isn't from 0 to 64.
     BadNearest,
     /// This number isn't a page size, which is 1 to 1000.
@@ -168,6 +176,22 @@ impl From<BadNumber> for Fault {
     }
 }
 
+impl From<BadNearShare> for Fault {
+    ghost from_gives = { λ _ fault. fault ≡ FaultOfNear };
+
+    fn from(_refused: BadNearShare) -> Fault {
+        Fault::BadNear
+    }
+}
+
+impl From<BadLineCount> for Fault {
+    ghost from_gives = { λ _ fault. fault ≡ FaultOfNumber Most };
+
+    fn from(_refused: BadLineCount) -> Fault {
+        Fault::BadNumber(PlaceLimit::Most)
+    }
+}
+
 impl From<BadNearest> for Fault {
     ghost from_gives = { λ _ fault. fault ≡ FaultOfNearest };
 
@@ -214,7 +238,7 @@ fn name_of(file: File) -> &'static str
     }
 }
 
-/// The name of a number.
+/// The name of a number for places.
 fn name_of_number(number: PlaceLimit) -> &'static str
     ensures { result.now ≡ number_name number }
 {
@@ -257,6 +281,8 @@ impl fmt::Display for Fault {
             Fault::TooManyCandidates(point) => write!(f, "TooManyCandidates {point}"),
             Fault::BadTolerance(name) => write!(f, "BadTolerance {}", name.text()),
             Fault::BadNumber(number) => write!(f, "BadNumber {}", name_of_number(*number)),
+            Fault::BadNear => write!(f, "BadNumber near"),
+            Fault::BadBox => write!(f, "BadNumber box"),
             Fault::BadNearest => write!(f, "BadNumber nearest"),
             Fault::BadPage(size) => write!(f, "BadPage {size}"),
             Fault::AfterWithAll => write!(f, "AfterWithAll"),

@@ -1,14 +1,20 @@
 //! What the program can be asked for, and why it may not be answered.
 //!
-//! - [`request`]: a request about one reference; [`question`]: what is asked of a reference on a
-//!   map, whichever it is.
+//! - [`request`]: a request about one reference, or one for the lines of a map; [`question`]: what
+//!   is asked of a reference on a map, whichever it is.
+//! - [`near_share`]: how much longer another path of a leg may be.
 //! - [`fault`]: the faults with which requests end, and the line of text for each.
 #![tactic(auto)]
 
 mod fault;
+mod near_share;
 mod question;
 mod request;
 
 pub use fault::Fault;
+pub use near_share::{BadNearShare, NearShare};
 pub use question::{Question, QuestionKind};
-pub use request::{Extras, Format, MatchRequest, Pages, PlacesRequest, Request, WhyRequest};
+pub use request::{
+    Extras, Format, LegsRequest, LinesRequest, MatchRequest, Pages, PlacesRequest, Query, Request,
+    WhyRequest,
+};

@@ -1,11 +1,13 @@
 //! What is asked for.
 
 ghost use Rattle.std.specs.Prelude.{◌≡◌};
-ghost use Rattle.olr_request.specs.Request.{bytes_of, cursor_of, text_of};
+ghost use Rattle.olr_request.specs.Request.{bytes_of, cursor_of, matching_request, text_of};
 
+use crate::near_share::NearShare;
 use olr_candidates::Tolerances;
 use olr_keys::PageSize;
 use olr_likely::PlaceOrder;
+use olr_lines::{GeoBox, LineCount};
 use olr_places::PlaceLimits;
 use olr_report::RoutePart;
 use olr_why::NearestCount;
@@ -146,4 +148,66 @@ impl<'a> Request<'a> {
             Pages::All => None,
         }
     }
+}
+
+/// What a request for the legs of one matching asks for.
+#[derive(Clone, Copy, Debug, PartialEq, Eq)]
+pub struct LegsRequest<'a> {
+    /// The text of the reference.
+    pub text: &'a str,
+    /// How far a line may differ from what a point says, and a route from its leg.
+    pub tolerances: Tolerances,
+    /// The text of the cursor of the matching; the first matching where there is none.
+    pub at: Option<&'a str>,
+    /// By how much another path of a leg may be longer.
+    pub near: NearShare,
+    /// How the legs are printed. They have no text: it is JSON then.
+    pub format: Format,
+}
+
+impl<'a> LegsRequest<'a> {
+    /// The request for the one matching behind its cursor, or for the first one: a cursor that it
+    /// refuses is refused here. The size is that of a page of one.
+    pub fn matching_request(&self, one: PageSize) -> MatchRequest<'a>
+        requires { one ≡ 1 }
+        ensures { result ≡ matching_request self.now }
+    {
+        MatchRequest {
+            text: self.text,
+            tolerances: self.tolerances,
+            size: one,
+            pages: Pages::One(self.at),
+            extras: Extras {
+                detail: false,
+                shape: false,
+                part: RoutePart::Route,
+            },
+            format: self.format,
+        }
+    }
+}
+
+/// What a request for the lines of a map that meet a box asks for.
+#[derive(Clone, Copy, Debug, PartialEq, Eq)]
+pub struct LinesRequest {
+    /// The box.
+    pub within: GeoBox,
+    /// How many lines are printed at most.
+    pub most: LineCount,
+    /// Whether their points are shown, in microdegrees.
+    pub shape: bool,
+    /// How the lines are printed. They have no text: it is JSON then.
+    pub format: Format,
+}
+
+/// What is asked: something about one reference, the legs of one of its matchings, or the lines of a
+/// map.
+#[derive(Clone, Copy, Debug, PartialEq, Eq)]
+pub enum Query<'a> {
+    /// What a request about a reference asks for.
+    Reference(Request<'a>),
+    /// Print the legs of a matching, and what else could be driven for each.
+    Legs(LegsRequest<'a>),
+    /// Print the lines of a map that meet a box.
+    Lines(LinesRequest),
 }
