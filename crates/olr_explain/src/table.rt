@@ -58,7 +58,7 @@ const TOLERANCE: &str = "\
     NAME is `radius`, `bearing`, `class`, `lowest`, `percent` or `slack`";
 
 /// A number that isn't a tolerance.
-const NUMBER: &str = "NAME is `apart`, `within`, `look`, `most` or `nearest`";
+const NUMBER: &str = "NAME is `apart`, `within`, `look`, `most`, `nearest`, `near` or `box`";
 
 /// The words of the command line.
 static COMMAND_LINE: [Explanation; 5] = [
@@ -92,15 +92,16 @@ static COMMAND_LINE: [Explanation; 5] = [
         detail: Detail::Values("NAME"),
         values: NUMBER,
         meaning: "\
-            the number NAME of `places` or `why` is out of its range; of several this is the \
-            first in the order given here",
+            the number NAME of `places`, `why`, `legs` or `lines` is out of its range, or the box of \
+            `lines` ends before it begins; of several this is the first in the order given here",
         cause: "\
             `--look 0` or `--most 0` for \"all\"; `--nearest 100` for \"many\"; centimetres \
-            where decimetres are meant",
+            where decimetres are meant; a latitude before its longitude",
         remedy: "\
             the ranges are `--apart` 0 to 1000000 dm, `--within` 0 to 14620 penalty points, \
             `--look` 1 to 1000000 matchings, `--most` 1 to 100 places; of `why`, `--nearest` 0 \
-            to 64 lines",
+            to 64 lines; of `legs`, `--near` 0 to 100 thousandths; of `lines`, `--most` 1 to 200000 \
+            lines, and `--box W,S,E,N` has the west before the east and the south before the north",
     },
     Explanation {
         name: "OpenFailed",
@@ -125,7 +126,7 @@ static MATCHINGS: [Explanation; 4] = [
         name: "BadCursor",
         detail: Detail::Nothing,
         values: "",
-        meaning: "the text behind `--after` isn't a cursor",
+        meaning: "the text behind `--after` or `--at` isn't a cursor",
         cause: "\
             the word `more` copied with it; a cursor cut short or broken over two lines; letters \
             changed to upper case",

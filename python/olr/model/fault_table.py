@@ -17,8 +17,8 @@ ROWS: dict[str, tuple[str, str]] = {
         "use 1 to 1000, or `--all`",
     ),
     "BadNumber NAME": (
-        "the number NAME of `places` or `why` is out of its range; of several this is the first in the order given here",
-        "the ranges are `--apart` 0 to 1000000 dm, `--within` 0 to 14620 penalty points, `--look` 1 to 1000000 matchings, `--most` 1 to 100 places; of `why`, `--nearest` 0 to 64 lines",
+        "the number NAME of `places`, `why`, `legs` or `lines` is out of its range, or the box of `lines` ends before it begins; of several this is the first in the order given here",
+        "the ranges are `--apart` 0 to 1000000 dm, `--within` 0 to 14620 penalty points, `--look` 1 to 1000000 matchings, `--most` 1 to 100 places; of `why`, `--nearest` 0 to 64 lines; of `legs`, `--near` 0 to 100 thousandths; of `lines`, `--most` 1 to 200000 lines, and `--box W,S,E,N` has the west before the east and the south before the north",
     ),
     "OpenFailed FILE": (
         "the file of nodes, lines or bans can't be opened, or that of the records of a batch, which is `input`",
@@ -113,7 +113,7 @@ ROWS: dict[str, tuple[str, str]] = {
         "try `cat` on the file",
     ),
     "BadCursor": (
-        "the text behind `--after` isn't a cursor",
+        "the text behind `--after` or `--at` isn't a cursor",
         "copy what follows `more ` up to the line's end",
     ),
     "CursorOfOther": (
