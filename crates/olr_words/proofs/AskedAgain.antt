@@ -1,19 +1,22 @@
 -- A question that is kept is the one which its words ask of each reference.
 use Rattle.std.proofs.Common.{◌≡◌, ◌∙◌, ap, refl, subst, sym, inr, Bor, false, List, ℕ, Option, None, Some, cond}
-use Rattle.std.specs.Prelude.{is_some, not}
+use Rattle.std.specs.Prelude.{Ok, is_some, not}
 use Rattle.clap.specs.Walk.{texts}
 use Rattle.olr_request.specs.Question.{request_for}
 use Rattle.olr_request.specs.declared.question.Question.{Question}
 use Rattle.olr_request.specs.declared.question.QuestionKind.{QuestionKind}
 use Rattle.olr_request.specs.declared.request.Pages.TheVariants as pages
 use Rattle.olr_words.specs.LastQuestion.{AskOfEach, IsQuestionWithoutCursor}
-use Rattle.olr_words.specs.Record.{IsGivenBy, has_reference, name_of, parts_of}
-use Rattle.olr_words.specs.RecordWords.{at_spaces, parts}
+use Rattle.olr_request.specs.declared.request.Query.TheVariants.{Reference}
+use Rattle.olr_request.specs.declared.request.Request.{Request}
+use Rattle.olr_words.specs.Record.{AskFor, IsGivenBy, IsQueryAbout, IsQueryOfWords, Subject, a_reference, has_reference, subject_named, name_of, parts_of}
+use Rattle.olr_words.specs.RecordWords.{Parts, at_spaces, parts}
 use Rattle.olr_words.specs.Words.{AreBoth, IsWhat, pages_of}
 use Rattle.olr_words.specs.declared.record_words.RecordWords.{RecordWords}
 use Rattle.olr_words.specs.declared.words.Given.{Given}
 use Rattle.olr_words.specs.declared.words.MapSubcommand.{MapSubcommand}
 use Rattle.olr_words.specs.declared.words.MapSubcommand.TheVariants as each
+use Rattle.olr_words.proofs.Requests.{about_reference}
 
 -- the same with another reference
 abbrev about : Given → Bor (List ℕ) → Given
@@ -33,6 +36,12 @@ first_page : (given : Given) → given.all ≡ false → given.after ≡ None
     → pages_of given ≡ pages.One None
 first_page given one_page none = ap (λ b. cond b pages.All (pages.One given.after)) one_page
     ∙ ap (λ after. pages.One after) none
+
+-- a request of a reference is what words ask for whose subject it is
+asks_reference : (its : Parts) (request : Request) → subject_named (name_of its.words) ≡ a_reference
+    → AskFor its (Ok request) → IsQueryOfWords its (Ok (Reference request))
+asks_reference its request named asks =
+    subst (λ (s : Subject). IsQueryAbout s its (Ok (Reference request))) (sym named) asks
 
 module _ (words behind : List ℕ) (given : Given) (question : Question)
     (its : IsGivenBy (parts (at_spaces words) (Some behind)) given) where
@@ -54,6 +63,9 @@ module _ (words behind : List ℕ) (given : Given) (question : Question)
         order = its.by.options_given.order;
         nearest = its.by.options_given.nearest;
         extras = its.by.options_given.extras;
+        edges = its.by.options_given.edges;
+        at = its.by.options_given.at;
+        near = its.by.options_given.near;
         after = its.by.options_given.after;
       };
       reference = refl;
@@ -67,24 +79,26 @@ module _ (words behind : List ℕ) (given : Given) (question : Question)
   ask_of_each named text reference at = inr (
     parts (at_spaces words) (Some reference.now),
     inr (words, reference.now, at, refl),
-    record {
-      given = about given reference;
-      given_by = given_about reference;
-      asks = inr (
-        named.0,
-        named.1,
-        record {
-          question = question;
-          is = record {
-            tolerances = record { each = named.2.tolerances.each };
-            what = same_what given reference named.0 question.what named.2.what;
-          };
-          one_of_both = not_both given its.by.one_page;
-          asks = λ k. request_for question.what question.tolerances reference
-              (sym (first_page given its.by.one_page named.3) k) given.format;
-        },
-      );
-    },
+    asks_reference (parts (at_spaces words) (Some reference.now)) (request_for question.what
+        question.tolerances reference (pages.One None) given.format)
+        (about_reference named.0 _ named.1) (record {
+          given = about given reference;
+          given_by = given_about reference;
+          asks = inr (
+            named.0,
+            named.1,
+            record {
+              question = question;
+              is = record {
+                tolerances = record { each = named.2.tolerances.each };
+                what = same_what given reference named.0 question.what named.2.what;
+              };
+              one_of_both = not_both given its.by.one_page;
+              asks = λ k. request_for question.what question.tolerances reference
+                  (sym (first_page given its.by.one_page named.3) k) given.format;
+            },
+          );
+        }),
   )
 
 -- the same of words that were split, which the reference isn't among

@@ -1,4 +1,6 @@
 mod Common
+mod Commas
+mod EdgeTexts
 mod GivenTolerances
 mod TolerancesRead
 mod Tables

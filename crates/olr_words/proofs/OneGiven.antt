@@ -12,8 +12,10 @@ use Rattle.olr_report.specs.declared.route_part.RoutePart.TheVariants.{Inner, Ou
 use Rattle.olr_request.specs.declared.request.Extras.{Extras}
 use Rattle.olr_request.specs.declared.request.Format.{Format}
 use Rattle.olr_request.specs.declared.request.Format.TheVariants.{GeoJson, Json, Text}
-use Rattle.olr_words.specs.Given.{IsFormatNamed, IsNumberOf, IsOrderNamed, IsPartNamed, IsProfileNamed, IsRecordFormatNamed, record_format}
-use Rattle.olr_words.specs.OneRequest.{placeless_pages}
+use Rattle.olr_words.specs.declared.box_text.Edges.{Edges}
+use Rattle.olr_words.proofs.EdgeTexts.{one_edges}
+use Rattle.olr_words.specs.Given.{AreEdgesOf, IsFormatNamed, IsNumberOf, IsOrderNamed, IsPartNamed, IsProfileNamed, IsRecordFormatNamed, record_format}
+use Rattle.olr_words.specs.OneRequest.{placeless_cursor, placeless_pages}
 use Rattle.olr_words.specs.Options.{RecordOption}
 use Rattle.olr_words.specs.Profile.{profile_value}
 use Rattle.olr_words.specs.Record.{AreGivenBy}
@@ -72,6 +74,14 @@ same_extras : (a b : Extras) → a.detail ≡ b.detail → a.shape ≡ b.shape �
 same_extras a b detail shape part =
     λ k. record { detail = detail k; shape = shape k; part = part k }
 
+one_box : (text : Option (List ℕ)) (a b : Option Edges) → AreEdgesOf text a → AreEdgesOf text b
+    → a ≡ b
+one_box None a b is other = is ∙ sym other
+one_box (Some text) None None is other = refl
+one_box (Some text) None (Some b) is other = absurd (is (b, other))
+one_box (Some text) (Some a) None is other = absurd (other (a, is))
+one_box (Some text) (Some a) (Some b) is other = ap (λ (e : Edges). Some e) (one_edges is other)
+
 one_format : (name : Option (List ℕ)) (a b : Format) → IsRecordFormatNamed name a
     → IsRecordFormatNamed name b → a ≡ b
 one_format name Json Json is other = refl
@@ -99,6 +109,9 @@ pub record Alike (g h : Given) : Type 0 where
   pub order : g.order ≡ h.order
   pub nearest : g.nearest ≡ h.nearest
   pub extras : g.extras ≡ h.extras
+  pub edges : g.edges ≡ h.edges
+  pub at : placeless_cursor g.at ≡ placeless_cursor h.at
+  pub near : g.near ≡ h.near
   pub pages : placeless_pages (pages_of g) ≡ placeless_pages (pages_of h)
   pub text : g.text.now ≡ h.text.now
   pub format : g.format ≡ h.format
@@ -140,6 +153,10 @@ alike options its g h by other =
       extras = same_extras g.extras h.extras (one_answer _ _ is.extras.detail too.extras.detail)
           (one_answer _ _ is.extras.shape too.extras.shape)
           (one_part _ _ _ is.extras.part too.extras.part);
+      edges = one_box _ _ _ is.edges too.edges;
+      at = cursor_alike g.at ∙ (ap (λ t. option_map at_bytes t) (is.at ∙ sym too.at)
+          ∙ sym (cursor_alike h.at));
+      near = one_number _ _ _ is.near too.near;
       pages = one_page_of g by.one_page ∙ (ap (λ t. pages.One (option_map at_bytes t))
           (is.after ∙ sym too.after) ∙ sym (one_page_of h other.one_page));
       text = by.reference ∙ sym other.reference;

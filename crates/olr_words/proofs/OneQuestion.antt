@@ -76,7 +76,7 @@ limits_are given limits are Most = are.most
 
 -- ---- the first that is out of range
 
-first_tolerance : (values : Tolerance → ℕ) (a b : Tolerance) → IsFirstOutOfRange values a
+pub first_tolerance : (values : Tolerance → ℕ) (a b : Tolerance) → IsFirstOutOfRange values a
     → IsFirstOutOfRange values b → a ≡ b
 first_tolerance values a b is other = elim (cases_eq (order_of a) (order_of b)) [
   | inl same ↦ same_name b a same
@@ -172,7 +172,7 @@ one_refused_what g h alike each.Places a b is other =
 one_refused_what g h alike each.Why a b is other = why_refused g a is ∙ sym (why_refused h b other)
 
 -- tolerances in range and one that is not exclude each other
-not_both : (g h : Given) → Alike g h → (tolerances : Tolerances) (name : Tolerance)
+pub not_both : (g h : Given) → Alike g h → (tolerances : Tolerances) (name : Tolerance)
     → AreTolerances g tolerances → IsFirstOutOfRange (value_of h) name → ⊥
 not_both g h alike tolerances name are first = first.beyond (subst (IsTolerance name)
     (are.each name ∙ ap (λ (v : Tolerance → ℕ). v name) alike.values) (in_range tolerances name))

@@ -1,6 +1,6 @@
 -- The requests that words ask for.
-use Rattle.std.proofs.Common.{◌≡◌, ◌≢◌, ◌⊎◌, ◌∙◌, ap, sym, subst, refl, inl, inr, Bool, true, false, cond, List, [], ◌∷◌, ℕ, Option, Some, None}
-use Rattle.std.specs.Prelude.{IfErr, IfOk, Result, Ok, Err, codes, find, option_map, unwrap_or}
+use Rattle.std.proofs.Common.{Bor, ◌≡◌, ◌≢◌, ◌⊎◌, ◌∙◌, ap, sym, subst, refl, inl, inr, Bool, true, false, cond, List, [], ◌∷◌, ℕ, Option, Some, None}
+use Rattle.std.specs.Prelude.{IfErr, IfOk, is_some, Result, Ok, Err, codes, find, option_map, unwrap_or}
 use Rattle.std.specs.Str.{bytes_eq}
 use Rattle.std.proofs.lemmas.Slice.Eq.{bytes_eq-Decides}
 use Rattle.clap.specs.Words.{first_value, found_of}
@@ -11,7 +11,11 @@ use Rattle.olr_request.specs.declared.request.Request.{Request}
 use Rattle.olr_words.specs.Given.{IsFormatNamed, IsGiven, IsRecordFormatNamed, record_format}
 use Rattle.olr_words.specs.Options.{RecordOption, options_named, options_of, subcommands}
 use Rattle.olr_words.specs.Found.{IsFoundIn}
-use Rattle.olr_words.specs.Record.{AskFor, IsGivenBy, IsOfSubcommand, IsRequestOfWords, name_of}
+use Rattle.olr_request.specs.declared.request.LinesRequest.{LinesRequest}
+use Rattle.olr_request.specs.declared.request.LegsRequest.{LegsRequest}
+use Rattle.olr_words.specs.Legs.{AreLegs}
+use Rattle.olr_words.specs.Lines.{AreLines, joined_parts, line_parts, parts_without}
+use Rattle.olr_words.specs.Record.{AreLegsOfWords, AreLinesOfWords, AskFor, AskForLegs, AskForLines, IsGivenBy, a_reference, subject_named, IsOfSubcommand, IsRequestOfWords, name_of}
 use Rattle.olr_words.specs.RecordWords.{Parts}
 use Rattle.olr_words.specs.Words.{IsNameOf, IsRefusedRequest, IsRequest}
 use Rattle.olr_words.specs.declared.record.RecordFault.TheVariants as record_fault
@@ -47,14 +51,17 @@ has_row (row ∷ rows) name options is = go (has_row rows name options) (bytes_e
     go others false same is = inr (others is)
 
 pub has_subcommand : (name : List ℕ) (options : List RecordOption) → options_of name ≡ Some options
-    → name ≢ codes "show" → ((kind : MapSubcommand) → ¬ (IsNameOf kind name)) → ⊥
-has_subcommand name options is not_that none = elim (has_row subcommands name options is) [
+    → name ≢ codes "show" → name ≢ codes "legs" → name ≢ codes "lines"
+    → ((kind : MapSubcommand) → ¬ (IsNameOf kind name)) → ⊥
+has_subcommand name options is not_that not_legs not_lines none = elim (has_row subcommands name options is) [
   | inl same ↦ not_that (sym same)
   | inr (inl same) ↦ none each.Candidates (sym same)
   | inr (inr (inl same)) ↦ none each.Match (sym same)
   | inr (inr (inr (inl same))) ↦ none each.Places (sym same)
   | inr (inr (inr (inr (inl same)))) ↦ none each.Why (sym same)
-  | inr (inr (inr (inr (inr no_one)))) ↦ absurd no_one
+  | inr (inr (inr (inr (inr (inl same))))) ↦ not_legs (sym same)
+  | inr (inr (inr (inr (inr (inr (inl same)))))) ↦ not_lines (sym same)
+  | inr (inr (inr (inr (inr (inr (inr no_one)))))) ↦ absurd no_one
 ]
 
 -- ---- what is given
@@ -70,6 +77,9 @@ given_alike text_of read given is same = subst (IsGiven text_of) (sym same) (rec
   order = is.order;
   nearest = is.nearest;
   extras = is.extras;
+  edges = is.edges;
+  at = is.at;
+  near = is.near;
   after = is.after;
 })
 
@@ -116,3 +126,60 @@ pub fault_asked : (its : Parts) (why : Fault) → AskFor its (Err why)
     → IsRequestOfWords its (Err (record_fault.Fault why))
 fault_asked its fault.NoMemory asks = tt
 fault_asked its _ asks = asks
+
+-- the subject of a subcommand that asks of a map is a reference
+pub about_reference : (kind : MapSubcommand) (name : List ℕ) → IsNameOf kind name
+    → subject_named name ≡ a_reference
+about_reference each.Candidates name is = ap subject_named is
+about_reference each.Match name is = ap subject_named is
+about_reference each.Places name is = ap subject_named is
+about_reference each.Why name is = ap subject_named is
+
+subject_by : (name : List ℕ) (lines legs : Bool) → bytes_eq name (codes "lines") ≡ lines
+    → bytes_eq name (codes "legs") ≡ legs → name ≢ codes "lines" → name ≢ codes "legs"
+    → subject_named name ≡ a_reference
+subject_by name true legs is its not_lines not_legs =
+    absurd (not_lines ((bytes_eq-Decides name (codes "lines")).0 is))
+subject_by name false true is its not_lines not_legs =
+    absurd (not_legs ((bytes_eq-Decides name (codes "legs")).0 its))
+subject_by name false false is its not_lines not_legs = rw (is, its) refl
+
+pub other_subject : (name : List ℕ) → name ≢ codes "lines" → name ≢ codes "legs"
+    → subject_named name ≡ a_reference
+other_subject name not_lines not_legs = subject_by name _ _ refl refl not_lines not_legs
+
+-- ---- the legs of a matching
+
+pub legs_asked : (its : Parts) (given : Given) (r : Result LegsRequest Fault) → IsGivenBy its given
+    → AreLegs given r → AskForLegs its r
+legs_asked its given r by asks = record { given = given; given_by = by; asks = asks }
+
+pub legs_fault : (its : Parts) (why : Fault) → AskForLegs its (Err why)
+    → AreLegsOfWords its (Err (record_fault.Fault why))
+legs_fault its fault.NoMemory asks = tt
+legs_fault its _ asks = asks
+
+-- ---- the lines of a map
+
+pub lines_asked : (its read_as : Parts) (given : Given) (r : Result LinesRequest Fault)
+    → line_parts its ≡ Some read_as → IsGivenBy read_as given → AreLines given r → AskForLines its r
+lines_asked its read_as given r read by asks = record {
+  read_as = read_as;
+  are_read = read;
+  given = given;
+  given_by = by;
+  asks = asks;
+}
+
+pub lines_fault : (its : Parts) (why : Fault) → AskForLines its (Err why)
+    → AreLinesOfWords its (Err (record_fault.Fault why))
+lines_fault its fault.NoMemory asks = tt
+lines_fault its _ asks = asks
+
+-- words with no reference behind them are read joined
+pub without_reference : (reference : Option (Bor (List ℕ))) (words : List (List ℕ))
+    → is_some reference ≡ false
+    → parts_without (option_map (λ (r : Bor (List ℕ)). r.now) reference) words
+    ≡ Some (joined_parts words)
+without_reference None words none = refl
+without_reference (Some reference) words none = absurd cc

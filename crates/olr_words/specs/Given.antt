@@ -10,7 +10,9 @@ use Rattle.olr_report.specs.declared.route_part.RoutePart.TheVariants.{Inner, Ou
 use Rattle.olr_request.specs.declared.request.Extras.{Extras}
 use Rattle.olr_request.specs.declared.request.Format.{Format}
 use Rattle.olr_request.specs.declared.request.Format.TheVariants.{GeoJson, Json, Text}
+use Rattle.olr_words.specs.BoxText.{IsBoxText, SpellsBox}
 use Rattle.olr_words.specs.Options.{IsWholeNumber}
+use Rattle.olr_words.specs.declared.box_text.Edges.{Edges}
 use Rattle.olr_words.specs.declared.profile.Profile.{Profile}
 use Rattle.olr_words.specs.declared.profile.Profile.TheVariants.{Feed, Program}
 use Rattle.olr_words.specs.declared.words.Given.{Given}
@@ -22,6 +24,12 @@ IsNumberOf None number = number ≡ None
 IsNumberOf (Some text) (Some number) =
     IsWholeNumber text × (number ≡ digits_value 10 (without_leading_plus text))
 IsNumberOf (Some text) None = ¬ (IsWholeNumber text)
+
+-- the edges of the box that a text is, if there is a text and it is one
+abbrev pub AreEdgesOf : Option (List ℕ) → Option Edges → Type 0
+AreEdgesOf None edges = edges ≡ None
+AreEdgesOf (Some text) (Some edges) = SpellsBox text edges
+AreEdgesOf (Some text) None = ¬ (IsBoxText text)
 
 -- the profile of a name
 abbrev pub IsProfileNamed : Option (List ℕ) → Profile → Type 0
@@ -88,4 +96,7 @@ module _ (text_of : List ℕ → Option (List ℕ)) where
     pub order : IsOrderNamed (text_of (codes "order")) given.order
     pub nearest : IsNumberOf (text_of (codes "nearest")) given.nearest
     pub extras : AreExtras given.extras
+    pub edges : AreEdgesOf (text_of (codes "box")) given.edges
+    pub at : option_map (λ cursor. cursor.now) given.at ≡ text_of (codes "at")
+    pub near : IsNumberOf (text_of (codes "near")) given.near
     pub after : option_map (λ cursor. cursor.now) given.after ≡ text_of (codes "after")

@@ -5,7 +5,8 @@ use Rattle.olr_request.specs.Question.{request_for}
 use Rattle.olr_request.specs.declared.question.Question.{Question}
 use Rattle.olr_request.specs.declared.request.Format.{Format}
 use Rattle.olr_request.specs.declared.request.Pages.TheVariants.{One}
-use Rattle.olr_words.specs.Record.{IsRequestOf}
+use Rattle.olr_request.specs.declared.request.Query.TheVariants.{Reference}
+use Rattle.olr_words.specs.Record.{IsQueryOf}
 use Rattle.olr_words.specs.RecordWords.{IsAtDashes}
 use Rattle.olr_words.specs.Words.{IsNameOf, IsQuestion}
 use Rattle.olr_words.specs.declared.words.Given.{Given}
@@ -21,5 +22,5 @@ IsQuestionWithoutCursor given name question = (kind : MapSubcommand) × IsNameOf
 abbrev pub AskOfEach : List ℕ → Question → Format → Type 0
 AskOfEach words question format = (text : List ℕ) (reference : Bor (List ℕ))
     → IsAtDashes text words reference.now
-    → IsRequestOf text
-    (Ok (request_for question.what question.tolerances reference (One None) format))
+    → IsQueryOf text (Ok (Reference
+    (request_for question.what question.tolerances reference (One None) format)))

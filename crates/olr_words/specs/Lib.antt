@@ -1,10 +1,13 @@
 pub mod Profile
 pub mod Words
 pub mod Rejected
+pub mod BoxText
 pub mod Options
 pub mod Given
 pub mod RecordCommand
 pub mod RecordWords
+pub mod Legs
+pub mod Lines
 pub mod Record
 pub mod Found
 pub mod OneRequest

@@ -4,15 +4,17 @@ use Rattle.std.specs.Prelude.{option_map}
 use Rattle.std.specs.List.{Contains}
 use Rattle.std.specs.Str.{bytes_eq}
 use Rattle.std.specs.Str.Parse.{IsNumeral, digits_value, without_leading_plus}
+use Rattle.olr_words.specs.BoxText.{IsBoxText}
 
 -- ---- options
 
--- what an option takes: a whole number; one of some words; the text of a cursor; or nothing, as a
--- flag
+-- what an option takes: a whole number; one of some words; the text of a cursor; that of a box, which
+-- has to be there; or nothing, as a flag
 pub data OptionValue : Type 0 where
   number : OptionValue
   one_of : List (List ℕ) → OptionValue
   cursor : OptionValue
+  geo_box : OptionValue
   flag : OptionValue
 
 -- an option: its name, without dashes, and what it takes
@@ -31,6 +33,7 @@ abbrev pub IsValue : OptionValue → List ℕ → Type 0
 IsValue number text = IsWholeNumber text
 IsValue (one_of words) text = Contains words text
 IsValue cursor text = ⊤
+IsValue geo_box text = IsBoxText text
 IsValue flag text = ⊤
 
 -- ---- subcommands
@@ -75,6 +78,16 @@ place_options = number_named (codes "apart") ∷ number_named (codes "within")
     ∷ number_named (codes "look") ∷ number_named (codes "most")
     ∷ option_named (codes "order") (one_of (codes "total" ∷ codes "likely" ∷ [])) ∷ []
 
+-- which matching has its legs printed, and how near another path is
+abbrev pub leg_options : List RecordOption
+leg_options = option_named (codes "at") cursor ∷ number_named (codes "near")
+    ∷ json_or_geojson_option ∷ []
+
+-- which lines of a map are printed, and what of each
+abbrev pub line_options : List RecordOption
+line_options = option_named (codes "box") geo_box ∷ number_named (codes "most")
+    ∷ flag_named (codes "shape") ∷ json_or_geojson_option ∷ []
+
 -- the subcommands that a record may name, each with its options in a record beside the reference
 abbrev pub subcommands : List (List ℕ × List RecordOption)
 subcommands = (codes "show", json_option ∷ [])
@@ -89,6 +102,8 @@ subcommands = (codes "show", json_option ∷ [])
       codes "why",
       number_named (codes "nearest") ∷ flag_named (codes "shape") ∷ json_option ∷ tolerance_options,
     )
+    ∷ (codes "legs", leg_options ++ tolerance_options)
+    ∷ (codes "lines", line_options)
     ∷ []
 
 -- the options in the first row of a name

@@ -1,13 +1,20 @@
 -- The words of a record, and what they ask for.
 use Rattle.std.specs.Prelude.{◌≡◌, ◌⊎◌, ⊤, ℕ, List, [], ◌∷◌, ◌++◌, codes, All, Contains, Bool, not}
-use Rattle.std.specs.Prelude.{Option, Some, IfSome, Result, Ok, Err, false, is_some, option_map, unwrap_or}
+use Rattle.std.specs.Str.{bytes_eq}
+use Rattle.std.specs.Prelude.{Option, Some, IfSome, Result, Ok, Err, false, if◌then◌else◌, is_some, option_map, unwrap_or}
 use Rattle.clap.specs.Walk.{texts}
 use Rattle.clap.specs.Words.{App, fault_of, first_of, matches_of}
 use Rattle.olr_request.specs.Fault.{fault_text}
 use Rattle.olr_request.specs.declared.fault.Fault.{Fault}
+use Rattle.olr_request.specs.declared.request.LinesRequest.{LinesRequest}
+use Rattle.olr_request.specs.declared.request.Query.{Query}
+use Rattle.olr_request.specs.declared.request.LegsRequest.{LegsRequest}
+use Rattle.olr_request.specs.declared.request.Query.TheVariants.{Legs, Lines, Reference}
 use Rattle.olr_request.specs.declared.request.Request.{Request}
 use Rattle.olr_request.specs.declared.request.Request.TheVariants.{Show}
 use Rattle.olr_words.specs.Given.{IsGiven, IsRecordFormatNamed}
+use Rattle.olr_words.specs.Legs.{AreLegs}
+use Rattle.olr_words.specs.Lines.{AreLines, line_parts}
 use Rattle.olr_words.specs.Options.{IsValue, RecordOption, options_of}
 use Rattle.olr_words.specs.RecordCommand.{options_in, record_app}
 use Rattle.olr_words.specs.RecordWords.{ArePartsOf, Parts, parts}
@@ -115,8 +122,77 @@ IsRequestOfWords its (Err (record_fault.Words line)) =
 IsRequestOfWords its (Err (record_fault.Fault fault.NoMemory)) = ⊤
 IsRequestOfWords its (Err (record_fault.Fault why)) = AskFor its (Err why)
 
+-- ---- what they ask of the legs of a matching
+
+-- the legs that words ask for, or the fault of a number
+pub record AskForLegs (its : Parts) (asked : Result LegsRequest Fault) : Type 0 where
+  pub given : Given
+  pub given_by : IsGivenBy its given
+  pub asks : AreLegs given asked
+
+-- what words ask for, or why they ask for nothing; memory may be refused, of which nothing is
+-- stated
+abbrev pub AreLegsOfWords : Parts → Result LegsRequest RecordFault → Type 0
+AreLegsOfWords its (Ok asked) = AskForLegs its (Ok asked)
+AreLegsOfWords its (Err (record_fault.Words line)) =
+    IsWordsLine line.bytes.items × AskForNothing its
+AreLegsOfWords its (Err (record_fault.Fault fault.NoMemory)) = ⊤
+AreLegsOfWords its (Err (record_fault.Fault why)) = AskForLegs its (Err why)
+
+-- ---- what they ask of the lines of a map
+
+-- the lines that words ask for, or the fault of a number or of the box
+pub record AskForLines (its : Parts) (asked : Result LinesRequest Fault) : Type 0 where
+  pub read_as : Parts
+  pub are_read : line_parts its ≡ Some read_as
+  pub given : Given
+  pub given_by : IsGivenBy read_as given
+  pub asks : AreLines given asked
+
+-- words ask for no lines: a reference stands behind them, or as they are read they ask for nothing
+abbrev pub AskForNoLines : Parts → Type 0
+AskForNoLines its = (read_as : Parts) → line_parts its ≡ Some read_as → AskForNothing read_as
+
+-- what words ask for, or why they ask for nothing; memory may be refused, of which nothing is
+-- stated
+abbrev pub AreLinesOfWords : Parts → Result LinesRequest RecordFault → Type 0
+AreLinesOfWords its (Ok asked) = AskForLines its (Ok asked)
+AreLinesOfWords its (Err (record_fault.Words line)) =
+    IsWordsLine line.bytes.items × AskForNoLines its
+AreLinesOfWords its (Err (record_fault.Fault fault.NoMemory)) = ⊤
+AreLinesOfWords its (Err (record_fault.Fault why)) = AskForLines its (Err why)
+
+-- ---- what a text asks for
+
+-- what words ask of: a reference, the legs of a matching, or the lines of a map
+pub data Subject : Type 0 where
+  a_reference : Subject
+  its_legs : Subject
+  some_lines : Subject
+
+-- that of words that begin with this name
+abbrev pub subject_named : List ℕ → Subject
+subject_named name = if bytes_eq name (codes "lines") then some_lines else
+    (if bytes_eq name (codes "legs") then its_legs else a_reference)
+
+-- what words ask for that ask of this, or why they ask for nothing
+abbrev pub IsQueryAbout : Subject → Parts → Result Query RecordFault → Type 0
+IsQueryAbout a_reference its (Ok (Reference request)) = IsRequestOfWords its (Ok request)
+IsQueryAbout a_reference its (Ok other) = ⊥
+IsQueryAbout a_reference its (Err why) = IsRequestOfWords its (Err why)
+IsQueryAbout its_legs its (Ok (Legs asked)) = AreLegsOfWords its (Ok asked)
+IsQueryAbout its_legs its (Ok other) = ⊥
+IsQueryAbout its_legs its (Err why) = AreLegsOfWords its (Err why)
+IsQueryAbout some_lines its (Ok (Lines asked)) = AreLinesOfWords its (Ok asked)
+IsQueryAbout some_lines its (Ok other) = ⊥
+IsQueryAbout some_lines its (Err why) = AreLinesOfWords its (Err why)
+
+-- what words ask for
+abbrev pub IsQueryOfWords : Parts → Result Query RecordFault → Type 0
+IsQueryOfWords its asked = IsQueryAbout (subject_named (name_of its.words)) its asked
+
 -- What a text asks for, or why it asks for nothing: that of its words. Memory for them may be refused,
 -- of which nothing is stated.
-abbrev pub IsRequestOf : List ℕ → Result Request RecordFault → Type 0
-IsRequestOf text asked = (asked ≡ Err (record_fault.Fault fault.NoMemory))
-    ⊎ ((its : Parts) × ArePartsOf text its × IsRequestOfWords its asked)
+abbrev pub IsQueryOf : List ℕ → Result Query RecordFault → Type 0
+IsQueryOf text asked = (asked ≡ Err (record_fault.Fault fault.NoMemory))
+    ⊎ ((its : Parts) × ArePartsOf text its × IsQueryOfWords its asked)

@@ -6,7 +6,7 @@ use Rattle.clap.specs.Words.{App, Rule, new_app, new_rule}
 use Rattle.clap.specs.Walk.{texts}
 use Rattle.clap.specs.declared.builder.action.ArgAction.{ArgAction}
 use Rattle.clap.specs.declared.builder.action.ArgAction.TheVariants.{SetTrue}
-use Rattle.olr_words.specs.Options.{OptionValue, RecordOption, option_named, number, one_of, cursor, flag}
+use Rattle.olr_words.specs.Options.{OptionValue, RecordOption, option_named, number, one_of, cursor, geo_box, flag}
 use Rattle.olr_words.specs.declared.options.CommandOption.{CommandOption}
 use Rattle.olr_words.specs.declared.command.Subcommand.{Subcommand}
 use Rattle.olr_words.specs.declared.options.Takes.{Takes}
@@ -19,11 +19,17 @@ abbrev pub action_for : OptionValue → Option ArgAction
 action_for flag = Some SetTrue
 action_for value = None
 
+-- it is a box, which has to be there
+abbrev pub is_box_value : OptionValue → Bool
+is_box_value geo_box = true
+is_box_value other = false
+
 -- an option: a name, with a word behind it unless it is a flag
 abbrev pub record_rule : RecordOption → Rule
 record_rule option = record (new_rule option.name) {
   long = Some option.name;
   action = action_for option.value;
+  required = is_box_value option.value;
 }
 
 -- the reference, a word without a name before it
@@ -63,6 +69,7 @@ record_value takes.Cursor = Some cursor
 record_value (takes.MapFile name) = None
 record_value takes.File = None
 record_value takes.MapFolder = None
+record_value takes.GeoBox = Some geo_box
 record_value takes.Flag = Some flag
 record_value takes.AllPages = None
 record_value takes.Words = None
@@ -71,6 +78,11 @@ record_value takes.Words = None
 abbrev pub is_flag : Option OptionValue → Bool
 is_flag (Some flag) = true
 is_flag _ = false
+
+-- a box, which a record may have
+abbrev pub is_box : Option OptionValue → Bool
+is_box (Some value) = is_box_value value
+is_box None = false
 
 abbrev pub record_option : CommandOption → Option RecordOption
 record_option option =

@@ -5,8 +5,9 @@ ghost use Rattle.olr_words.specs.Options.{options_named, options_of};
 ghost use Rattle.olr_words.specs.RecordCommand.{options_in, row_of};
 
 use crate::options::{
-    CommandOption, DETAIL, FAULT, FILES, FORMAT, GEO_FORMAT, LIMITS, NEAREST, NEAREST_SHAPE, ORDER,
-    PAGE, PAGE_FORMAT, PAGES, PART, RECORDS, REFERENCE, REQUESTS, SHAPE, TOLERANCES, Takes,
+    BOX, CommandOption, DETAIL, FAULT, FILES, FORMAT, GEO_FORMAT, LEGS, LIMITS, LINES, NEAREST,
+    NEAREST_SHAPE, ORDER, PAGE, PAGE_FORMAT, PAGES, PART, RECORDS, REFERENCE, REQUESTS, SHAPE,
+    TOLERANCES, Takes,
 };
 use clap::{Arg, ArgAction, ArgGroup, Command, Error};
 use std::alloc::Global;
@@ -42,7 +43,7 @@ const ANSWER: Subcommand = Subcommand {
     options: &[FILES, REQUESTS],
 };
 
-/// The subcommands that answer one reference.
+/// The subcommands that answer one reference, and that for the lines of a map.
 const SUBCOMMANDS: &[Subcommand] = &[
     Subcommand {
         name: "show",
@@ -80,6 +81,16 @@ const SUBCOMMANDS: &[Subcommand] = &[
         name: "why",
         about: "Print why an OpenLR reference has no matching on a map, and what would help",
         options: &[REFERENCE, FILES, NEAREST, NEAREST_SHAPE, FORMAT, TOLERANCES],
+    },
+    Subcommand {
+        name: "legs",
+        about: "Print for each leg of a matching another path that is nearly as short, and a shorter one on worse roads",
+        options: &[REFERENCE, FILES, LEGS, TOLERANCES],
+    },
+    Subcommand {
+        name: "lines",
+        about: "Print the lines of a map that meet a box of coordinates",
+        options: &[BOX, FILES, LINES],
     },
 ];
 
@@ -144,6 +155,12 @@ fn argument<'a>(alloc: Global, option: &CommandOption) -> Result<Arg<'a>, Error>
                 .value_parser(words),
         ),
         Takes::Cursor => Ok(named(alloc, option).value_name("CURSOR")),
+        Takes::GeoBox => Ok(
+            named(alloc, option)
+                .value_name("W,S,E,N")
+                .required(true)
+                .allow_hyphen_values(true),
+        ),
         Takes::Flag | Takes::AllPages => Ok(named(alloc, option).action(ArgAction::SetTrue)),
         Takes::Words => Ok(Arg::new(alloc, option.name).help(option.help).num_args(0..)),
     }
@@ -214,7 +231,7 @@ fn batch_command<'a>(alloc: Global) -> Result<Command<'a>, Error> {
     with_subcommands(alloc, command, BATCH_SUBCOMMANDS)
 }
 
-/// The command with the subcommands that answer one reference.
+/// The command with the subcommands that have one answer.
 fn main_command<'a>(alloc: Global) -> Result<Command<'a>, Error> {
     let command = Command::new(alloc, "olr")
         .about("Read OpenLR location references, and find them on a road map")
@@ -249,7 +266,7 @@ fn named_in(subcommands: &[Subcommand], name: &str) -> Option<Subcommand>
     None
 }
 
-/// The subcommand of this name that answers one reference, if there is one.
+/// The subcommand of this name that has one answer, if there is one.
 pub fn subcommand_named(name: &str) -> Option<Subcommand>
     ensures options { option_map options_in result ≡ options_of name.now }
     ensures name { IfSome result (λ subcommand. subcommand.name.now ≡ name.now) }

@@ -1,5 +1,6 @@
 //! What words that aren't understood are rejected with, where it can be said what to write instead.
 
+use crate::box_text::edges_in;
 use crate::command::{EXPLAIN, Subcommand, batch_subcommand_named, command_of, subcommand_named};
 use crate::options::CommandOption;
 use crate::reading::{flag_in, format_in};
@@ -124,6 +125,30 @@ fn check_numbers(
     )?)
 }
 
+/// Refuses a text that is given for a box and isn't one.
+fn check_box(
+    alloc: Global,
+    subcommand: Option<Subcommand>,
+    found: &ArgMatches<'_>,
+) -> Result<(), Rejected> {
+    let (Some(subcommand), Some(text)) = (subcommand, found.get_str("box")) else {
+        return Ok(());
+    };
+    if edges_in(text).is_some() {
+        return Ok(());
+    }
+    let message = format!(in alloc;
+        "invalid value '{text}' for '--box <W,S,E,N>': it takes four whole numbers, joined by commas"
+    )?;
+    Err(rejection(
+        alloc,
+        "olr",
+        &subcommand,
+        ErrorKind::ValueValidation,
+        &message,
+    )?)
+}
+
 /// Refuses coordinates in an output that is text, which is the format where none is given.
 fn check_shape(
     alloc: Global,
@@ -176,8 +201,8 @@ fn check_topic(alloc: Global, found: &ArgMatches<'_>) -> Result<(), Rejected> {
 }
 
 /// Refuses what is found among the words where `clap` took a text that isn't what its place takes, a
-/// number or the name of a fault; and coordinates in an output that is text. In a batch each answer
-/// is JSON.
+/// number, a box or the name of a fault; and coordinates in an output that is text. In a batch each answer
+/// is JSON, and lines have no text.
 ///
 /// # Errors
 ///
@@ -193,6 +218,9 @@ pub fn check_values(alloc: Global, matches: &ArgMatches<'_>) -> Result<(), Rejec
     if name != "batch" {
         let subcommand = subcommand_named(name);
         check_numbers(alloc, "olr", subcommand, found)?;
+        if name == "lines" {
+            return check_box(alloc, subcommand, found);
+        }
         return check_shape(alloc, subcommand, found);
     }
     let Some((name, found)) = found.subcommand() else {

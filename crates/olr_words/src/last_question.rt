@@ -2,7 +2,8 @@
 
 ghost use Rattle.std.specs.Prelude.{IfSome, Ok, ⊤};
 ghost use Rattle.olr_words.specs.LastQuestion.{AskOfEach};
-ghost use Rattle.olr_words.specs.Record.{IsRequestOf};
+ghost use Rattle.olr_request.specs.declared.request.Query.TheVariants.{Reference};
+ghost use Rattle.olr_words.specs.Record.{IsQueryOf};
 
 use olr_request::{Format, Pages, Question, Request};
 use std::alloc::Global;
@@ -40,7 +41,7 @@ impl LastQuestion {
 
     /// What a text asks for whose words are those of the last question.
     pub fn asked_again<'a>(&self, text: &'a str) -> Option<Request<'a>>
-        ensures { IfSome result (λ request. IsRequestOf text.now (Ok request)) }
+        ensures { IfSome result (λ request. IsQueryOf text.now (Ok (Reference request))) }
     {
         let Some(kept) = &self.kept else {
             return None;

@@ -5,6 +5,7 @@
 //!   their names.
 //! - [`words`]: what the words ask for: a request or many records, and the files that they read; or
 //!   what a fault means; [`reading`]: the numbers, flags and names that they give.
+//! - [`legs`]: what is asked of the legs of a matching; [`lines`]: of the lines of a map; [`box_text`]: the text of a box.
 //! - [`record_words`]: the words of a record, and the reference behind them.
 //! - [`record`]: the request that they ask for; [`record_command`]: the options that they may have, as
 //!   `clap` takes them; [`last_question`]: the question that was asked last, which needn't be
@@ -15,9 +16,12 @@
 //! - [`rejected`]: why nothing was written, the status for it, and the text that is printed.
 #![tactic(auto)]
 
+mod box_text;
 mod command;
 mod hints;
 mod last_question;
+mod legs;
+mod lines;
 mod options;
 mod place_order;
 mod profile;

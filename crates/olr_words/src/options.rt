@@ -3,8 +3,9 @@
 ghost use Rattle.std.specs.Prelude.{◌≡◌, Decides, IfSome, is_some};
 ghost use Rattle.std.specs.List.{Any};
 ghost use Rattle.olr_words.specs.Options.{IsValue};
-ghost use Rattle.olr_words.specs.RecordCommand.{is_flag, record_value};
+ghost use Rattle.olr_words.specs.RecordCommand.{is_box, is_flag, record_value};
 
+use crate::box_text::edges_in;
 use crate::place_order::PLACE_ORDERS;
 use crate::profile::Profile;
 use crate::route_part::ROUTE_PARTS;
@@ -29,6 +30,8 @@ pub(crate) enum Takes {
     Format(&'static [&'static str], &'static [&'static str]),
     /// The text of a cursor.
     Cursor,
+    /// The text of a box of coordinates. It has to be there.
+    GeoBox,
     /// Nothing more: it is there, or it isn't.
     Flag,
     /// Nothing more. It asks for all pages, which a record can't have.
@@ -60,6 +63,13 @@ impl CommandOption {
         matches!(self.takes, Takes::Number)
     }
 
+    /// Whether it takes a box of coordinates, which has to be there.
+    pub fn takes_box(&self) -> bool
+        ensures { result ≡ is_box (record_value self.now.takes) }
+    {
+        matches!(self.takes, Takes::GeoBox)
+    }
+
     /// Whether it is an option that a record may have: it names no file, and doesn't ask for several
     /// pages.
     pub fn is_of_record(&self) -> bool
@@ -67,7 +77,12 @@ impl CommandOption {
     {
         matches!(
             self.takes,
-            Takes::Number | Takes::OneOf(_, _) | Takes::Format(_, _) | Takes::Cursor | Takes::Flag
+            Takes::Number
+                | Takes::OneOf(_, _)
+                | Takes::Format(_, _)
+                | Takes::Cursor
+                | Takes::GeoBox
+                | Takes::Flag
         )
     }
 
@@ -88,6 +103,7 @@ impl CommandOption {
             Takes::Number => text.parse::<u32>().is_ok(),
             Takes::OneOf(_, words) => is_one_of(text, words),
             Takes::Format(_, words) => is_one_of(text, words),
+            Takes::GeoBox => edges_in(text).is_some(),
             _ => true,
         }
     }
@@ -221,6 +237,9 @@ const TEXT_OR_JSON: Takes = Takes::Format(&["text", "json"], &["json"]);
 /// One of these, or GeoJSON, for what can be drawn on a map.
 const ANY_FORMAT: Takes = Takes::Format(&["text", "json", "geojson"], &["json", "geojson"]);
 
+/// JSON or GeoJSON, for what has no text.
+const JSON_OR_GEOJSON: Takes = Takes::Format(&["json", "geojson"], &["json", "geojson"]);
+
 /// The format of an output that is one object.
 pub(crate) const FORMAT: &[CommandOption] = &[CommandOption {
     name: "format",
@@ -276,6 +295,51 @@ pub(crate) const NEAREST_SHAPE: &[CommandOption] = &[CommandOption {
     takes: Takes::Flag,
     help: "Print where each of these lines is nearest to its point, in microdegrees: not as text",
 }];
+
+/// Which matching has its legs printed, how near another path of a leg is, and the format.
+pub(crate) const LEGS: &[CommandOption] = &[
+    CommandOption {
+        name: "at",
+        takes: Takes::Cursor,
+        help: "Print the legs of the matching that this cursor names [default: the best one]",
+    },
+    CommandOption {
+        name: "near",
+        takes: Takes::Number,
+        help: "By how much another path of a leg may be longer, in thousandths: 0 to 100 [default: 1]",
+    },
+    CommandOption {
+        name: "format",
+        takes: JSON_OR_GEOJSON,
+        help: "Print JSON or GeoJSON: one object on a line [default: json]",
+    },
+];
+
+/// The box whose lines are printed.
+pub(crate) const BOX: &[CommandOption] = &[CommandOption {
+    name: "box",
+    takes: Takes::GeoBox,
+    help: "The box, in microdegrees: its west, south, east and north, as 7416000,49871000,7418000,49873000",
+}];
+
+/// How many lines are printed, and whether their points are.
+pub(crate) const LINES: &[CommandOption] = &[
+    CommandOption {
+        name: "most",
+        takes: Takes::Number,
+        help: "How many lines are printed, at most: 1 to 200000 [default: 20000]",
+    },
+    CommandOption {
+        name: "shape",
+        takes: Takes::Flag,
+        help: "Print the points of each line, in microdegrees",
+    },
+    CommandOption {
+        name: "format",
+        takes: JSON_OR_GEOJSON,
+        help: "Print JSON or GeoJSON: one object on a line [default: json]",
+    },
+];
 
 /// The records of a batch.
 pub(crate) const RECORDS: &[CommandOption] = &[CommandOption {

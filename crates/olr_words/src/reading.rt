@@ -3,8 +3,9 @@
 ghost use Rattle.std.specs.Prelude.{◌≡◌, codes};
 ghost use Rattle.clap.specs.Words.{first_value, found_of};
 ghost use Rattle.olr_words.specs.Given.{AreExtras, AreTolerancesOf, IsFlagOf, IsFormatNamed};
-ghost use Rattle.olr_words.specs.Given.{IsNumberOf, record_format};
+ghost use Rattle.olr_words.specs.Given.{AreEdgesOf, IsNumberOf, record_format};
 
+use crate::box_text::{Edges, edges_in};
 use crate::route_part::route_part_named;
 use clap::ArgMatches;
 use olr_candidates::Tolerance;
@@ -17,6 +18,14 @@ pub fn number_in(found: &ArgMatches<'_>, name: &str) -> Option<u32>
 {
     let text = found.get_str(name)?;
     text.parse().ok()
+}
+
+/// The edges of the box that is found; `None` where there is no text for it, or one that is no box.
+pub(crate) fn box_in(found: &ArgMatches<'_>) -> Option<Edges>
+    ensures { AreEdgesOf (first_value (found_of found.now) (codes "box")) result }
+{
+    let text = found.get_str("box")?;
+    edges_in(text)
 }
 
 /// Whether a flag is there. The text that `clap` finds for it is `true` if it is, else `false`.

@@ -1,18 +1,19 @@
 //! From the text of a record to the request that its words ask for.
 
 ghost use Rattle.std.specs.Prelude.{◌≡◌, ◌≢◌, All, Contains, IfErr, IfNone, IfOk, IfSome, OnOk};
-ghost use Rattle.std.specs.Prelude.{[], ⊤, codes, false, true, ℕ, List, Result, string_bytes, unwrap_or};
+ghost use Rattle.std.specs.Prelude.{[], ⊤, Some, codes, false, true, ℕ, List, Result, string_bytes, unwrap_or};
 ghost use Rattle.std.specs.List.{flat_map};
 ghost use Rattle.clap.specs.Walk.{texts};
 ghost use Rattle.clap.specs.Words.{fault_of, first_value, found_of, kind_of};
 ghost use Rattle.clap.specs.declared.error.kind.ErrorKind.TheVariants.{OutOfMemory as NoMemoryKind};
 ghost use Rattle.olr_words.specs.Found.{AreFound, IsFoundIn, IsOfWords};
-ghost use Rattle.olr_words.specs.Record.{AskForNothing, HasValue, IsGivenBy, IsRequestOf};
-ghost use Rattle.olr_words.specs.Record.{IsRequestOfWords, IsWordsLine, app_of_words, has_reference};
+ghost use Rattle.olr_words.specs.Record.{AskForNothing, HasValue, IsGivenBy};
+ghost use Rattle.olr_words.specs.Record.{AreLegsOfWords, AreLinesOfWords, IsQueryOf, IsQueryOfWords, IsRequestOfWords};
+ghost use Rattle.olr_words.specs.Record.{IsWordsLine, app_of_words, has_reference};
 ghost use Rattle.olr_words.specs.Record.{name_of, parts_of};
-ghost use Rattle.olr_words.specs.RecordWords.{ArePartsOf, at_spaces};
+ghost use Rattle.olr_words.specs.RecordWords.{ArePartsOf, at_spaces, parts};
 ghost use Rattle.olr_words.specs.OneRequest.{StateTheSame};
-ghost use Rattle.olr_request.specs.declared.request.Request.{Request as RequestOf};
+ghost use Rattle.olr_request.specs.declared.request.Query.{Query as QueryOf};
 ghost use Rattle.olr_words.specs.declared.record.RecordFault.{RecordFault as FaultOf};
 ghost use Rattle.olr_words.specs.RecordCommand.{record_option, record_options};
 ghost use Rattle.olr_request.specs.declared.fault.Fault.TheVariants as fault;
@@ -20,6 +21,7 @@ ghost use Rattle.olr_words.specs.declared.record.RecordFault.TheVariants as reco
 
 use crate::command::{Subcommand, subcommand_named};
 use crate::last_question::LastQuestion;
+use crate::lines::joined_words;
 use crate::options::CommandOption;
 use crate::record_command::record_command_of;
 use crate::record_words::RecordWords;
@@ -27,7 +29,7 @@ use crate::words::Given;
 use clap::error::ErrorKind;
 use clap::{ArgMatches, Error};
 use olr_base::NoMemory;
-use olr_request::{Fault, Request};
+use olr_request::{Fault, LegsRequest, LinesRequest, Query, Request};
 use std::alloc::{AllocError, Global};
 
 /// Why the text of a record asks for nothing, or isn't answered.
@@ -285,19 +287,15 @@ fn keep_question(alloc: Global, last: &mut LastQuestion, words: &RecordWords<'_>
     }
 }
 
-/// What the words of a record ask for, as JSON or GeoJSON. A question of a reference behind the words,
-/// with no cursor and nothing refused, is kept as the last one.
-///
-/// # Errors
-///
-/// [`RecordFault::Words`] where the first word is no subcommand that answers one reference, or the
-/// others give it something that it doesn't take in a record, or lack something that it requires;
-/// else the fault with which the program refuses the same words.
-pub fn request_of_record<'a, 'b: 'a>(
+/// What the words of a record ask of a reference. A question of one behind the words, with no cursor
+/// and nothing refused, is kept as the last one.
+fn request_about<'a, 'b: 'a>(
     alloc: Global,
     last: &mut LastQuestion,
     words: &'a RecordWords<'b>,
 ) -> Result<Request<'a>, RecordFault>
+    requires legs { name_of (parts_of words.now).words ≢ codes "legs" }
+    requires lines { name_of (parts_of words.now).words ≢ codes "lines" }
     ensures { IsRequestOfWords (parts_of words.entry.now) result }
 {
     let given = given_in(alloc, words)?;
@@ -311,9 +309,83 @@ pub fn request_of_record<'a, 'b: 'a>(
     }
 }
 
+/// The legs of a matching that the words of a record ask for.
+fn legs_of_record<'a, 'b: 'a>(
+    alloc: Global,
+    words: &'a RecordWords<'b>,
+) -> Result<LegsRequest<'a>, RecordFault>
+    ensures { AreLegsOfWords (parts_of words.entry.now) result }
+{
+    let given = given_in(alloc, words)?;
+    match given.legs() {
+        Ok(asked) => Ok(asked),
+        Err(fault) => Err(RecordFault::Fault(fault)),
+    }
+}
+
+/// The words of a record that asks for lines, as they are read from this text.
+fn line_words<'a>(alloc: Global, text: &'a str) -> Result<RecordWords<'a>, AllocError>
+    ensures { IfOk result (λ words. parts_of words ≡ parts (at_spaces text.now) (Some [])) }
+{
+    let words = words_in(alloc, text)?;
+    Ok(RecordWords {
+        text,
+        words,
+        reference: Some(""),
+    })
+}
+
+/// The lines of a map that the words of a record ask for.
+fn lines_of_record(alloc: Global, words: &RecordWords<'_>) -> Result<LinesRequest, RecordFault>
+    ensures { AreLinesOfWords (parts_of words.now) result }
+{
+    if words.reference.is_some() {
+        let why = format!(in alloc; "unexpected reference behind the words of 'lines'");
+        return Err(words_fault(alloc, why));
+    }
+    let text = joined_words(alloc, &words.words)?;
+    let words = line_words(alloc, &text)?;
+    let given = given_in(alloc, &words)?;
+    match given.lines() {
+        Ok(asked) => Ok(asked),
+        Err(fault) => Err(RecordFault::Fault(fault)),
+    }
+}
+
+/// What the words of a record ask for, as JSON or GeoJSON. A question of a reference behind the words,
+/// with no cursor and nothing refused, is kept as the last one.
+///
+/// # Errors
+///
+/// [`RecordFault::Words`] where the first word is no subcommand that has one answer, or the others
+/// give it something that it doesn't take in a record, or lack something that it requires; else the
+/// fault with which the program refuses the same words.
+pub fn request_of_record<'a, 'b: 'a>(
+    alloc: Global,
+    last: &mut LastQuestion,
+    words: &'a RecordWords<'b>,
+) -> Result<Query<'a>, RecordFault>
+    ensures { IsQueryOfWords (parts_of words.entry.now) result }
+{
+    match name_in(words) {
+        "legs" => {
+            let asked = legs_of_record(alloc, words)?;
+            Ok(Query::Legs(asked))
+        }
+        "lines" => {
+            let asked = lines_of_record(alloc, words)?;
+            Ok(Query::Lines(asked))
+        }
+        _ => match request_about(alloc, last, words) {
+            Ok(request) => Ok(Query::Reference(request)),
+            Err(fault) => Err(fault),
+        },
+    }
+}
+
 /// A text asks for one thing, wherever its parts lie in memory. [`words_of_record`] and
 /// [`request_of_record`] give it.
 pub fn one_request_of_record()
-    ensures { (text : List ℕ) (one other : Result RequestOf FaultOf) → IsRequestOf text one
-        → IsRequestOf text other → StateTheSame one other }
+    ensures { (text : List ℕ) (one other : Result QueryOf FaultOf) → IsQueryOf text one
+        → IsQueryOf text other → StateTheSame one other }
 {}

@@ -11,12 +11,15 @@ use crate::options::CommandOption;
 use clap::{Arg, ArgAction, Command};
 use std::alloc::{AllocError, Global};
 
-/// The argument for an option of a record: a name, and a word unless it is a flag.
+/// The argument for an option of a record: a name, and a word unless it is a flag. A box has to be
+/// there.
 fn argument<'a>(alloc: Global, option: &CommandOption) -> Arg<'a>
     ensures rule { IfSome (record_option option.now) (λ o. rule_of result ≡ record_rule o) }
     ensures local { result.global ≡ false }
 {
-    let argument = Arg::new(alloc, option.name).long(option.name);
+    let argument = Arg::new(alloc, option.name)
+        .long(option.name)
+        .required(option.takes_box());
     if option.is_flag() {
         return argument.action(ArgAction::SetTrue);
     }

@@ -13,11 +13,14 @@ ghost use Rattle.olr_words.specs.Words.{IsQuestion, IsRefusedNumber, IsRefusedQu
 ghost use Rattle.olr_words.specs.Words.{IsRefusedRequest, IsRefusedTolerance, IsRefusedWhat};
 ghost use Rattle.olr_words.specs.Words.{IsRequest, IsSize, IsWhat, nearest_of, pages_of, size_of};
 
+use crate::box_text::Edges;
 use crate::command::whole_command;
 use crate::hints::{check_values, not_understood, topic_in};
 use crate::place_order::place_order_named;
 use crate::profile::Profile;
-use crate::reading::{extras_in, flag_in, format_in, format_of_record, number_in, tolerances_in};
+use crate::reading::{
+    box_in, extras_in, flag_in, format_in, format_of_record, number_in, tolerances_in,
+};
 use crate::rejected::Rejected;
 use clap::error::ErrorKind;
 use clap::{ArgMatches, Command};
@@ -26,7 +29,9 @@ use olr_explain::Topic;
 use olr_keys::PageSize;
 use olr_likely::PlaceOrder;
 use olr_places::PlaceLimits;
-use olr_request::{Extras, Fault, Format, Pages, Question, QuestionKind, Request};
+use olr_request::{
+    Extras, Fault, Format, LegsRequest, LinesRequest, Pages, Question, QuestionKind, Request,
+};
 use olr_why::NearestCount;
 use std::alloc::{AllocError, Global};
 
@@ -58,6 +63,10 @@ pub enum Files<'a> {
 pub enum Asked<'a> {
     /// The answer to one request, on the map of these files if it reads one.
     One(Request<'a>, Option<Files<'a>>),
+    /// The legs of a matching on the map of these files.
+    Legs(LegsRequest<'a>, Files<'a>),
+    /// The lines of the map of these files that meet a box.
+    Lines(LinesRequest, Files<'a>),
     /// The answers to many records, on the map of these files.
     Many(Records, Files<'a>, Input<'a>),
     /// What these faults mean.
@@ -108,14 +117,14 @@ impl MapSubcommand {
 }
 
 /// The numbers that the words give for places, in range or not: apart in decimetres, within in
-/// penalty points, look in matchings, most in places. `None` where an option is left out, or where
+/// penalty points, look in matchings, most in places, or in lines where lines are asked for. `None` where an option is left out, or where
 /// the subcommand has no such option.
 #[derive(Clone, Copy)]
-struct GivenNumbers {
+pub(crate) struct GivenNumbers {
     apart: Option<u32>,
     within: Option<u32>,
     look: Option<u32>,
-    most: Option<u32>,
+    pub(crate) most: Option<u32>,
 }
 
 impl GivenNumbers {
@@ -154,18 +163,21 @@ impl GivenNumbers {
 
 /// What the words give to a subcommand, in range or not: the profile, the tolerances in the order of
 /// [`Tolerance::ALL`] and the units of [`Tolerance::least`], how many matchings a page has, the
-/// numbers for places and their order, how many lines near a point are printed, and what is shown of
-/// each thing. `None` where a number is left out, or where the subcommand has no such option.
+/// numbers for places and their order, how many lines near a point are printed, what is shown of each
+/// thing, the edges of a box, and which legs are printed. `None` where a number is left out, or where the subcommand has no such option.
 #[derive(Clone, Copy)]
 pub(crate) struct Given<'a> {
-    text: &'a str,
+    pub(crate) text: &'a str,
     profile: Profile,
     tolerances: [Option<u32>; Tolerance::COUNT],
     page: Option<u32>,
-    numbers: GivenNumbers,
+    pub(crate) numbers: GivenNumbers,
     order: PlaceOrder,
     nearest: Option<u32>,
-    extras: Extras,
+    pub(crate) extras: Extras,
+    pub(crate) edges: Option<Edges>,
+    pub(crate) at: Option<&'a str>,
+    pub(crate) near: Option<u32>,
     after: Option<&'a str>,
     all: bool,
     pub(crate) format: Format,
@@ -189,6 +201,9 @@ impl<'a> Given<'a> {
             order: place_order_named(found.get_str("order")),
             nearest: number_in(found, "nearest"),
             extras: extras_in(found),
+            edges: box_in(found),
+            at: found.get_str("at"),
+            near: number_in(found, "near"),
             after: found.get_str("after"),
             all: flag_in(found, "all"),
             format: format_in(found),
@@ -235,7 +250,7 @@ impl<'a> Given<'a> {
     ///
     /// [`Fault::BadTolerance`] with the first that is out of its range, in the order of
     /// [`Tolerance::ALL`].
-    fn tolerances(&self) -> Result<Tolerances, Fault>
+    pub(crate) fn tolerances(&self) -> Result<Tolerances, Fault>
         ensures accepted { IfOk result (AreTolerances self.now) }
         ensures refused { IfErr result (IsRefusedTolerance self.now) }
     {
@@ -413,11 +428,29 @@ fn batch_in<'a>(matches: &ArgMatches<'a>) -> Option<Result<Asked<'a>, Fault>> {
     Some(Ok(Asked::Many(records, files_of(found)?, input_of(found))))
 }
 
+/// The lines that are asked for, of the map that the words give.
+fn lines_in<'a>(found: &ArgMatches<'a>) -> Option<Result<Asked<'a>, Fault>> {
+    match Given::read(found, "").lines() {
+        Ok(asked) => Some(Ok(Asked::Lines(asked, files_of(found)?))),
+        Err(fault) => Some(Err(fault)),
+    }
+}
+
+/// The legs that are asked for, on the map that the words give.
+fn legs_in<'a>(found: &ArgMatches<'a>) -> Option<Result<Asked<'a>, Fault>> {
+    match Given::read(found, found.get_str("REF")?).legs() {
+        Ok(asked) => Some(Ok(Asked::Legs(asked, files_of(found)?))),
+        Err(fault) => Some(Err(fault)),
+    }
+}
+
 /// What the subcommand found among the words asks for, if there is one.
 fn asked_in<'a>(matches: &ArgMatches<'a>) -> Option<Result<Asked<'a>, Fault>> {
     let (name, found) = matches.subcommand()?;
     match name {
         "batch" => return batch_in(found),
+        "legs" => return legs_in(found),
+        "lines" => return lines_in(found),
         "answer" => {
             let files = files_of(found)?;
             return Some(Ok(Asked::Many(Records::Requests, files, input_of(found))));
@@ -445,11 +478,13 @@ fn nothing_asked(command: &mut Command<'_>) -> Result<Rejected, AllocError> {
 ///
 /// [`Rejected::Words`] where the words name no subcommand, give it something that it doesn't take,
 /// lack something that it requires, ask for help, give a number that isn't a whole one of 32 bits,
-/// ask for coordinates in text, or name a fault that there isn't; else [`Rejected::Fault`]: with
+/// ask for coordinates in text, give a box that isn't four signed numbers of 32 bits, or name a fault
+/// that there isn't; else [`Rejected::Fault`]: with
 /// [`Fault::AfterWithAll`] where both a cursor and all pages are asked for; else with
 /// [`Fault::BadTolerance`] and the first tolerance that is out of its range; else with
 /// [`Fault::BadPage`] and a page size that is out of its range, [`Fault::BadNumber`] and the first
-/// number for places that is, or [`Fault::BadNearest`]. [`Fault::NoMemory`] where the allocator
+/// number for places that is, [`Fault::BadNearest`], [`Fault::BadNear`], or with a number of lines that is out of its range
+/// and then [`Fault::BadBox`]. [`Fault::NoMemory`] where the allocator
 /// refused memory.
 pub fn asked_of<'a>(alloc: Global, words: &'a [String]) -> Result<Asked<'a>, Rejected> {
     let mut command = whole_command(alloc)?;

@@ -1,24 +1,13 @@
-use Rattle.std.proofs.Common.{◌∙◌, ap}
-use Rattle.std.specs.Prelude.{Err, Ok}
-use Rattle.olr_words.specs.Options.{options_of}
-use Rattle.olr_words.specs.Record.{parts_of}
-use Rattle.olr_words.proofs.Requests.{asked, fault_asked, has_subcommand}
+use Rattle.std.proofs.Common.{◌∙◌, ap, subst, sym}
+use Rattle.std.specs.Prelude.{Err}
+use Rattle.olr_words.specs.Record.{IsQueryAbout, IsRequestOfWords, Subject, parts_of}
+use Rattle.olr_words.proofs.Requests.{other_subject}
 use Rattle.olr_words.proofs.record.request_of_record.Goals as goal
 
-pub returns-in-Ok : goal.returns-in-Ok
-returns-in-Ok c = asked (parts_of c.args.words.now) c.in_ok-given.given c.name_in.result.now
-    (Ok c.in-Ok.request) c.in_ok-given.ensures.given c.name_in.ensures
-    (rw c.in-Ok.is at c.in-Some.ensures.asked)
-
 pub returns-in-Err : goal.returns-in-Err
-returns-in-Err c = fault_asked (parts_of c.args.words.now) c.in-Err.fault
-    (asked (parts_of c.args.words.now) c.in_ok-given.given c.name_in.result.now
-    (Err c.in-Err.fault) c.in_ok-given.ensures.given c.name_in.ensures
-    (rw c.in-Err.is at c.in-Some.ensures.asked))
-
-pub returns-in_default : goal.returns-in_default
-returns-in_default c =
-    let is = c.in_ok-given.ensures.given in
-    absurd (has_subcommand c.name_in.result.now is.options
-    (ap options_of c.name_in.ensures ∙ is.understood.named)
-    c.in_default.ensures.none.0 c.in_default.ensures.none.1)
+returns-in-Err c =
+    let its = parts_of c.args.words.now in
+    subst (λ (s : Subject). IsQueryAbout s its (Err c.in-Err.fault))
+    (sym (other_subject _ (λ is. c.in_default.not-lines (c.name_in.ensures ∙ is))
+    (λ is. c.in_default.not-legs (c.name_in.ensures ∙ is))))
+    (subst (IsRequestOfWords its) c.in-Err.is c.request_about.ensures)

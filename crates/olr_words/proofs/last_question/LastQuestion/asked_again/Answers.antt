@@ -4,7 +4,8 @@ use Rattle.std.proofs.lemmas.Slice.Eq.{bytes_eq-Decides}
 use Rattle.std.proofs.lemmas.Str.Pattern.{split_text_parts}
 use Rattle.olr_request.specs.declared.request.Request.{Request}
 use Rattle.olr_words.specs.LastQuestion.{AskOfEach}
-use Rattle.olr_words.specs.Record.{IsRequestOf}
+use Rattle.olr_request.specs.declared.request.Query.TheVariants.{Reference}
+use Rattle.olr_words.specs.Record.{IsQueryOf}
 use Rattle.olr_words.specs.RecordWords.{IsAtDashes, dashes}
 use Rattle.olr_words.proofs.Dashes.{at_dashes}
 use Rattle.olr_words.proofs.last_question.LastQuestion.asked_again.Goals as goal
@@ -21,6 +22,6 @@ returns-then-eq c =
     let at : IsAtDashes c.args.text.now c.in_ok-words.words.now c.in_ok-words.reference.now =
     at_dashes _ _ _ cases.0 cases.1 cases.2 cases.6 (split_text_parts dashes c.args.text.now
     (Some (c.in_ok-words.words, c.in_ok-words.reference)) cases) in
-    subst (λ (r : Request). IsRequestOf c.args.text.now (Ok r)) (sym c.request.ensures)
+    subst (λ (r : Request). IsQueryOf c.args.text.now (Ok (Reference r))) (sym c.request.ensures)
     (ask c.args.text.now c.in_ok-words.reference
     (subst (λ words. IsAtDashes c.args.text.now words c.in_ok-words.reference.now) same at))
