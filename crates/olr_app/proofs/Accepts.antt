@@ -1,5 +1,6 @@
 -- A request is accepted in one way, or refused with one fault.
-use Rattle.olr_app.proofs.Common.{Reference, OneCursor, KeyValue, CursorRead, Mark, Accepts, IsStart, fault_of, OneOutcome, cursor_of, text_of, AndThen, Accepted, Fault, BadCursor, Request, ◌≡◌, ℕ, List, Option, None, Some, Ok, Err, ap, refl, sym, ◌∙◌, Result, IsReferenceOf, ReportsRefusal}
+use Rattle.olr_app.proofs.Common.{Reference, OneCursor, KeyValue, CursorRead, Mark, Accepts, IsStart, fault_of, OneOutcome, AndThen, Accepted, Fault, BadCursor, Request, ◌≡◌, ℕ, List, Option, None, Some, Ok, Err, ap, refl, sym, ◌∙◌, Result, IsReferenceOf, ReportsRefusal}
+use Rattle.olr_app.specs.Accepting.{AcceptsTexts}
 use Rattle.olr_app.proofs.Single.{IsSingle, err_of, first_then, no_ok_and_err, ok_of, same_err, same_ok}
 
 -- ---- records by their fields
@@ -51,7 +52,7 @@ start_once law (Some text) (Ok one) (Err other) is again = absurd (again.1 _ _ i
 start_once law (Some text) (Err one) (Ok other) is again = absurd (is.1 _ _ again.2)
 start_once law (Some text) (Err one) (Err other) is again = ap Err (is.0 ∙ sym again.0)
 
--- ---- a request
+-- ---- the texts of a request
 
 -- what is accepted once the text is that of a reference
 abbrev Begins : Option (List ℕ) → Reference → Result Accepted Fault → Type 0
@@ -71,17 +72,18 @@ begins_once law cursor reference (Err one) (Ok other) is again =
 begins_once law cursor reference (Err one) (Err other) is again =
     ap Err (same_err (start_once law cursor (Err one) (Err other) is again))
 
-in_stages : (request : Request) (result : Result Accepted Fault) → Accepts request result
-    → AndThen (IsReferenceOf (text_of request)) (Begins (cursor_of request)) result
-in_stages request (Ok accepted) is = (accepted.reference, is.0, (refl, is.1))
-in_stages request (Err fault) is = is
+in_stages : (text : List ℕ) (cursor : Option (List ℕ)) (result : Result Accepted Fault)
+    → AcceptsTexts text cursor result
+    → AndThen (IsReferenceOf text) (Begins cursor) result
+in_stages text cursor (Ok accepted) is = (accepted.reference, is.0, (refl, is.1))
+in_stages text cursor (Err fault) is = is
 
-pub accepted_once : OneOutcome → OneCursor → (request : Request) → IsSingle (Accepts request)
-accepted_once outcome cursor request one other is again =
-    first_then (IsReferenceOf (text_of request)) (Begins (cursor_of request))
-    (reference_once outcome (text_of request))
-    (λ reference its. begins_once cursor (cursor_of request) reference) one other
-    (in_stages request one is) (in_stages request other again)
+pub accepted_once : OneOutcome → OneCursor → (text : List ℕ) (cursor : Option (List ℕ))
+    → IsSingle (AcceptsTexts text cursor)
+accepted_once outcome law text cursor one other is again =
+    first_then (IsReferenceOf text) (Begins cursor) (reference_once outcome text)
+    (λ reference its. begins_once law cursor reference) one other
+    (in_stages text cursor one is) (in_stages text cursor other again)
 
 -- where a request is refused, what passes on the refusal reports it
 pub passed_on : {T : Type 0} {request : Request} {fault : Fault} {result : Result T Fault}

@@ -184,7 +184,7 @@ module _ {S : Type 0} (left : S → Option (List ℕ)) (failed : S → ℕ) (old
     unwritten_leaves T U other found is = inr (inr (tt, is))
 
 -- the refusal of a request
-of_request : (request : Request) (why : Fault) → Accepts request (Err why) → IsOfRequest why
+pub of_request : (request : Request) (why : Fault) → Accepts request (Err why) → IsOfRequest why
 of_request request why is = elim is [
   | inl its ↦ inl (its.0, its.2)
   | inr its ↦ inr (start_fault (cursor_of request) why its.2)

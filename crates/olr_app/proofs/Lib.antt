@@ -3,9 +3,12 @@ pub mod Taking
 pub mod Single
 pub mod Accepts
 pub mod AnswerOf
+pub mod LegsLeave
+pub mod LinesLeave
 pub mod PagesOf
 pub mod Features
 pub mod Listings
 pub mod Alone
 pub mod OnePage
 pub mod OnMap
+pub mod LegsOf

@@ -25,17 +25,19 @@ IsStart (Some text) (Ok start) =
 IsStart (Some text) (Err fault) =
     (fault ≡ BadCursor) × ((key : KeyValue) (mark : Option Mark) → ¬ IsCursorOf key mark text)
 
--- The request is accepted: its text is that of a reference, and that of its cursor, if it has one,
--- is that of a cursor. Or the fault with which it is refused: that of the reference before that of
+-- The texts are accepted: the first one is that of a reference, and the second one, if it is there,
+-- that of a cursor. Or the fault with which they are refused: that of the reference before that of
 -- the cursor.
+abbrev pub AcceptsTexts : List ℕ → Option (List ℕ) → Result Accepted Fault → Type 0
+AcceptsTexts text cursor (Ok accepted) =
+    IsReferenceOf text (Ok accepted.reference) × IsStart cursor (Ok accepted.start)
+AcceptsTexts text cursor (Err fault) =
+    IsReferenceOf text (Err fault)
+    ⊎ ((reference : Reference) × IsReferenceOf text (Ok reference) × IsStart cursor (Err fault))
+
+-- a request is accepted, or refused, for its text and that of its cursor
 abbrev pub Accepts : Request → Result Accepted Fault → Type 0
-Accepts request (Ok accepted) =
-    IsReferenceOf (text_of request) (Ok accepted.reference)
-    × IsStart (cursor_of request) (Ok accepted.start)
-Accepts request (Err fault) =
-    IsReferenceOf (text_of request) (Err fault)
-    ⊎ ((reference : Reference) × IsReferenceOf (text_of request) (Ok reference)
-    × IsStart (cursor_of request) (Err fault))
+Accepts request = AcceptsTexts (text_of request) (cursor_of request)
 
 -- the request is accepted
 abbrev pub IsAccepted : Request → Type 0

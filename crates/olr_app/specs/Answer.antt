@@ -17,7 +17,7 @@ use Rattle.olr_app.specs.Why.{AreReasons}
 use Rattle.olr_app.specs.Writing.{HasStopped, IsWritten}
 use Rattle.olr_app.specs.declared.accepting.Accepted.{Accepted}
 use Rattle.olr_request.specs.declared.fault.Fault.{Fault}
-use Rattle.olr_request.specs.declared.fault.Fault.TheVariants.{AfterWithAll, BadNearest, BadNumber, BadPage, BadTolerance}
+use Rattle.olr_request.specs.declared.fault.Fault.TheVariants.{AfterWithAll, BadBox, BadNear, BadNearest, BadNumber, BadPage, BadTolerance}
 use Rattle.olr_request.specs.declared.fault.Fault.TheVariants.{InputNotOpened, InputNotRead}
 use Rattle.olr_request.specs.declared.fault.Fault.TheVariants.{NoMemory, OpenFailed, ReadFailed}
 use Rattle.olr_request.specs.declared.fault.Fault.TheVariants.{WriteFailed}
@@ -106,6 +106,8 @@ module _ (texts : Texts) where
   IsReason request InputNotRead = ⊥
   IsReason request (BadTolerance name) = ⊥
   IsReason request (BadNumber number) = ⊥
+  IsReason request BadNear = ⊥
+  IsReason request BadBox = ⊥
   IsReason request BadNearest = ⊥
   IsReason request (BadPage size) = ⊥
   IsReason request AfterWithAll = ⊥

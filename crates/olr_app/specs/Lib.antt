@@ -1,4 +1,5 @@
 pub mod Common
+pub mod Lines
 pub mod Out
 pub mod Unbanned
 pub mod Stages
@@ -9,6 +10,8 @@ pub mod Matching
 pub mod Places
 pub mod Why
 pub mod Writing
+pub mod Legs
+pub mod LegsRun
 pub mod Answer
 pub mod Sources
 pub mod inner

@@ -2,7 +2,7 @@
 
 ghost use Rattle.std.specs.Prelude.{◌≡◌, IfOk, Result};
 ghost use Rattle.olr_binary.specs.Reference.{IsReference};
-ghost use Rattle.olr_app.specs.Accepting.{Accepts, IsStart};
+ghost use Rattle.olr_app.specs.Accepting.{Accepts, AcceptsTexts, IsStart};
 ghost use Rattle.olr_request.specs.Request.{bytes_of};
 ghost use Rattle.olr_request.specs.declared.fault.Fault.{Fault as AnyFault};
 
@@ -37,21 +37,36 @@ fn start_of(cursor: Option<&str>) -> Result<Option<CursorRead>, Fault>
     Ok(Some(read))
 }
 
-/// Accepts a request, or refuses it for its own texts.
+/// Accepts the text of a reference, and that of a cursor if there is one, or refuses one of them.
 ///
 /// # Errors
 ///
 /// The refusal of the reference, or else [`Fault::BadCursor`] where the text of the cursor isn't
 /// that of one.
+pub(crate) fn accept_texts(text: &str, cursor: Option<&str>) -> Result<Accepted, Fault>
+    ensures accepted { AcceptsTexts text.now (bytes_of cursor.entry) result }
+    ensures reference { IfOk result (λ accepted. IsReference accepted.reference) }
+    // No other result is.
+    ensures only { (other : Result Accepted AnyFault)
+        → AcceptsTexts text.now (bytes_of cursor.entry) other → other ≡ result }
+{
+    one_outcome();
+    one_cursor();
+    let reference = decode(text)?;
+    let start = start_of(cursor)?;
+    Ok(Accepted { reference, start })
+}
+
+/// Accepts a request, or refuses it for its own texts.
+///
+/// # Errors
+///
+/// Those of [`accept_texts`].
 pub(crate) fn accept(request: &Request<'_>) -> Result<Accepted, Fault>
     ensures accepted { Accepts request.now result }
     ensures reference { IfOk result (λ accepted. IsReference accepted.reference) }
     // No other result is.
     ensures only { (other : Result Accepted AnyFault) → Accepts request.now other → other ≡ result }
 {
-    one_outcome();
-    one_cursor();
-    let reference = decode(request.text())?;
-    let start = start_of(request.cursor())?;
-    Ok(Accepted { reference, start })
+    accept_texts(request.text(), request.cursor())
 }

@@ -36,7 +36,7 @@ use std::alloc::Global;
 /// # Errors
 ///
 /// [`Fault::CursorOfOther`] where it isn't; [`Fault::NoMemory`] where the allocator refused memory.
-fn check_inputs(
+pub(crate) fn check_inputs(
     alloc: Global,
     map: &Map,
     asked: &MatchRequest<'_>,
@@ -104,7 +104,7 @@ fn key_of(start: &Option<CursorRead>) -> Option<&Key>
 ///
 /// [`Fault::CursorNotHere`] where the cursor isn't that of a matching; [`Fault::NoMemory`] where
 /// the allocator refused memory.
-fn pages_asked(
+pub(crate) fn pages_asked(
     alloc: Global,
     layers: &Layers,
     asked: &MatchRequest<'_>,
