@@ -9,6 +9,7 @@ use Rattle.olr_request.specs.Request.{at_bytes}
 use Rattle.olr_request.specs.declared.question.Question.{Question}
 use Rattle.olr_request.specs.declared.question.QuestionKind.{QuestionKind}
 use Rattle.olr_request.specs.declared.question.QuestionKind.TheVariants.{Candidates, Match, Places, Why}
+use Rattle.olr_request.specs.declared.request.Query.TheVariants.{Reference}
 use Rattle.olr_request.specs.declared.request.Request.{Request}
 use Rattle.olr_batch.specs.Answers.{IsFaultFor, IsReply}
 use Rattle.olr_words.specs.declared.record.RecordFault.TheVariants as record_fault
@@ -34,7 +35,7 @@ module _ (question : Question) (road : RoadMap) (text : Bor (List ℕ)) where
   pub answer_of : (request : Request) (output : List ℕ) → request ≡ here
       → IsAnswerOfMany road request (Ok output) → IsReply (References question) road text.now output
   answer_of request output same is = (
-    alone,
+    Reference alone,
     refl,
     rw (← (anywhere question.what question.tolerances road text (Ok output)))
         (subst (λ (r : Request). IsAnswerOfMany road r (Ok output)) same is),
@@ -54,7 +55,7 @@ module _ (question : Question) (road : RoadMap) (text : Bor (List ℕ)) where
       → IsFaultOfMany road request why
       → IsFaultFor (References question) road text.now (record_fault.Fault why)
   fault_of request why same is = inr (
-    alone,
+    Reference alone,
     why,
     refl,
     fault_alone why (subst (λ (r : Request). IsFaultOfMany road r why) same is),

@@ -2,10 +2,12 @@
 
 ghost use Rattle.std.specs.Prelude.{◌≡◌, IfErr, IfOk, IsOk, string_bytes};
 ghost use Rattle.olr_request.specs.Question.{asked_alone};
-ghost use Rattle.olr_batch.specs.Answers.{IsFaultFor, IsReply};
+ghost use Rattle.olr_batch.specs.Answers.{IsAnswerTo, IsFaultFor, IsFaultTo, IsReply};
+ghost use Rattle.olr_request.specs.declared.fault.Fault.{Fault};
+ghost use Rattle.olr_words.specs.declared.record.RecordFault.TheVariants as record_fault;
 ghost use Rattle.olr_words.specs.declared.words.Records.TheVariants.{References, Requests};
 
-use olr_app::{Format, MapForRequests, Pages, Question, Request};
+use olr_app::{Format, MapForRequests, Pages, Query, Question, Request, legs_on_map, lines_of};
 use olr_words::{LastQuestion, RecordFault, Records, request_of_record, words_of_record};
 use std::alloc::Global;
 
@@ -51,12 +53,45 @@ fn reply_to_reference(
     Ok(answer)
 }
 
+/// The answer to what is asked.
+///
+/// # Errors
+///
+/// That of [`MapForRequests::answer`] or of [`legs_on_map`]; of lines only that the allocator refused
+/// memory.
+fn reply_to_query(
+    alloc: Global,
+    on: &mut MapForRequests<'_>,
+    query: &Query<'_>,
+) -> Result<String, RecordFault>
+    ensures map { on.new.map ≡ on.old.map }
+    ensures answer { IfOk result (λ answer.
+        IsAnswerTo on.old.map.now query.now (string_bytes answer)) }
+    ensures fault { IfErr result (λ why. (fault : Fault)
+        × IsFaultTo on.old.map.now query.now fault × (why ≡ record_fault.Fault fault)) }
+{
+    match query {
+        Query::Reference(request) => {
+            let answer = on.answer(alloc, request)?;
+            Ok(answer)
+        }
+        Query::Legs(asked) => {
+            let answer = legs_on_map(alloc, on.map, asked)?;
+            Ok(answer)
+        }
+        Query::Lines(asked) => {
+            let answer = lines_of(alloc, on.map, asked)?;
+            Ok(answer)
+        }
+    }
+}
+
 /// The answer to the request of a text. Words that are those of the last question aren't understood
 /// again.
 ///
 /// # Errors
 ///
-/// That of [`request_of_record`]; else that of [`MapForRequests::answer`].
+/// That of [`request_of_record`]; else that of [`reply_to_query`].
 fn reply_to_request(
     alloc: Global,
     on: &mut MapForRequests<'_>,
@@ -73,9 +108,8 @@ fn reply_to_request(
         return Ok(answer);
     }
     let words = words_of_record(alloc, text)?;
-    let request = request_of_record(alloc, last, &words)?;
-    let answer = on.answer(alloc, &request)?;
-    Ok(answer)
+    let query = request_of_record(alloc, last, &words)?;
+    reply_to_query(alloc, on, &query)
 }
 
 impl RecordsOnMap<'_> {
@@ -85,7 +119,7 @@ impl RecordsOnMap<'_> {
     /// # Errors
     ///
     /// That of [`request_of_record`] where records are requests; else that of
-    /// [`MapForRequests::answer`].
+    /// [`MapForRequests::answer`], or that the allocator refused memory.
     pub(crate) fn reply(&mut self, alloc: Global, text: &str) -> Result<String, RecordFault>
         ensures records { self.new.records ≡ self.old.records }
         ensures map { self.new.map.map ≡ self.old.map.map }
