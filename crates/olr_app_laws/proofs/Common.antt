@@ -43,7 +43,7 @@ pub use Rattle.olr_report.specs.Json.{entry_object, next_value}
 pub use Rattle.olr_report.specs.Text.{entries_rows, next_after}
 pub use Rattle.olr_report.specs.TextRows.{end_row, entry_rows, leg_rows, location_rows, part_row, pieces_row, place_row, point_rows}
 pub use Rattle.olr_request.specs.Fault.{fault_of_map, fault_of}
-pub use Rattle.olr_request.specs.Request.{ReadsMap, at_bytes, bytes_of, cursor_in, text_of}
+pub use Rattle.olr_request.specs.Request.{ReadsMap, at_bytes, bytes_of, cursor_in, cursor_of, text_of}
 pub use Rattle.olr_request.specs.declared.fault.Fault.TheVariants.{TooManyCandidates}
 pub use Rattle.olr_request.specs.declared.fault.Fault.{Fault}
 pub use Rattle.olr_request.specs.declared.request.Format.TheVariants.{GeoJson, Json, Text}

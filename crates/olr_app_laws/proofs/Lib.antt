@@ -9,6 +9,7 @@ mod HeadlineCursors
 mod HeadlineAll
 mod Marks
 mod AsRuns
+mod LinesOnce
 mod OneReply
 mod OfRequests
 mod OneRequest

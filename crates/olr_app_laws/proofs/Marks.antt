@@ -1,5 +1,5 @@
 -- The answer of one of many requests is that of a run, but for its marks.
-use Rattle.olr_app_laws.proofs.Common.{arith, RoadMap, IsSoundMap, Accepted, Fault, Accepts, IsAnswerOf, IsAnswerOn, IsMapOfFiles, IsPageAsAsked, IsPageTextWith, IsTextOfPage, AreAnswers, Entry, KeyValue, LayersValue, Mark, Bool, IsPageAfter, next_after, key_of, AreMatchings, AndThen, MatchRequest, Json, One, Request, Candidates, Match, Places, Show, ◌≡◌, ℕ, true, false, List, Option, None, Some, Ok, Err, Bor, refl, sym, subst, ◌∙◌, inl, inr, Result, Laws, IsMapOf, Texts, known, FaultIsOfRun, IsSameOutput, OneAnswerOfMany, OutputIsOfRun, ShowsSame, ReadsMap, Why, accepted_once, on_map, first_then, same_ok}
+use Rattle.olr_app_laws.proofs.Common.{arith, RoadMap, IsSoundMap, Accepted, Fault, Accepts, IsAnswerOf, IsAnswerOn, IsMapOfFiles, IsPageAsAsked, IsPageTextWith, IsTextOfPage, AreAnswers, Entry, KeyValue, LayersValue, Mark, Bool, IsPageAfter, next_after, key_of, AreMatchings, AndThen, MatchRequest, Json, One, Request, Candidates, Match, Places, Show, ◌≡◌, ℕ, true, false, List, Option, None, Some, Ok, Err, Bor, refl, sym, subst, ◌∙◌, inl, inr, Result, Laws, IsMapOf, Texts, known, FaultIsOfRun, IsSameOutput, OneAnswerOfMany, OutputIsOfRun, ShowsSame, ReadsMap, Why, accepted_once, on_map, first_then, same_ok, text_of, cursor_of}
 use Rattle.olr_app.proofs.AnswerOf.{answer_of_files}
 use Rattle.olr_app_laws.proofs.OneAnswer.{detailed_once, on_map_once}
 use Rattle.olr_app.specs.Page.{detailed_features_of, features_of}
@@ -127,7 +127,7 @@ output_is_of_run laws nodes lines bans road request output answer is_map reads i
     (subst (λ r. IsAnswerOn true request is.0 r (Ok output))
     (laws.map nodes lines bans on.0 road on.1 is_map) on.2)
     (subst (λ a. IsAnswerOn false request a road (Ok answer))
-    (same_ok (accepted_once laws.outcome laws.cursor request (Ok its.0) (Ok is.0) its.1 is.1))
+    (same_ok (accepted_once laws.outcome laws.cursor (text_of request) (cursor_of request) (Ok its.0) (Ok is.0) its.1 is.1))
     its.2)
 
 module _ (laws : Laws) (nodes lines bans : List ℕ) (road : RoadMap)
@@ -171,5 +171,5 @@ fault_is_of_run laws nodes lines bans road request fault is_map reads = (
 
 pub one_answer_of_many : Laws → OneAnswerOfMany
 one_answer_of_many laws road request sound = first_then _ _
-    (accepted_once laws.outcome laws.cursor request)
+    (accepted_once laws.outcome laws.cursor (text_of request) (cursor_of request))
     (λ accepted is. on_map_once laws false request accepted road is sound)

@@ -5,12 +5,19 @@ use Rattle.olr_app.specs.Answer.{IsAnswer as IsAnswerOfRun, IsAnswerOfMany, IsFa
 use Rattle.olr_request.specs.Question.{asked_alone}
 use Rattle.olr_request.specs.declared.fault.Fault.TheVariants as fault
 use Rattle.olr_request.specs.declared.question.Question.{Question}
-use Rattle.olr_app_laws.specs.RecordLaws.{AsksAlone, BatchFaultIsAnswers, BatchIsAnswer, LawsBelow, RequestFaultsAreOfRuns, RequestsAreOfRuns}
+use Rattle.olr_app_laws.specs.RecordLaws.{AsksAlone, BatchFaultIsAnswers, BatchIsAnswer, LawsBelow, LinesAreOfRuns, RequestFaultsAreOfRuns, RequestsAreOfRuns}
 use Rattle.olr_words.specs.OneRequest.{placeless}
-use Rattle.olr_words.specs.Record.{IsRequestOf}
+use Rattle.olr_app.specs.Lines.{AreLinesPrinted}
+use Rattle.olr_batch.specs.Answers.{IsAnswerTo, IsFaultTo}
+use Rattle.olr_request.specs.declared.request.LegsRequest.{LegsRequest}
+use Rattle.olr_request.specs.declared.request.LinesRequest.{LinesRequest}
+use Rattle.olr_request.specs.declared.request.Query.{Query}
+use Rattle.olr_request.specs.declared.request.Query.TheVariants.{Legs, Lines, Reference}
+use Rattle.olr_words.specs.Record.{IsQueryOf}
 use Rattle.olr_words.specs.declared.record.RecordFault.{RecordFault}
 use Rattle.olr_words.specs.declared.record.RecordFault.TheVariants as record_fault
-use Rattle.olr_app_laws.proofs.OneReply.{cast, moved, no_fault, placed, same_stated}
+use Rattle.olr_app_laws.proofs.LinesOnce.{one_output}
+use Rattle.olr_app_laws.proofs.OneReply.{cast, moved, no_fault, placed, lines_unlike_legs, same_lines, same_stated, unlike, unlike_legs}
 
 abbrev fault_of_request : Fault → RecordFault
 fault_of_request why = record_fault.Fault why
@@ -29,16 +36,44 @@ answer_of road request why has other same is = elim is [
 ]
 
 module _ (laws : LawsBelow) where
-  same_request : (text : List ℕ) (one other : Request) → IsRequestOf text (Ok one)
-      → IsRequestOf text (Ok other) → placeless one ≡ placeless other
-  same_request text one other is its =
-      same_stated one other (laws.request text (Ok one) (Ok other) is its)
+  same_request : (text : List ℕ) (one other : Request) → IsQueryOf text (Ok (Reference one))
+      → IsQueryOf text (Ok (Reference other)) → placeless one ≡ placeless other
+  same_request text one other is its = same_stated one other
+      (laws.request text (Ok (Reference one)) (Ok (Reference other)) is its)
 
   -- a text of a request has no fault of words or numbers
   none_refused : (text : List ℕ) (request : Request) (why : Fault) → why ≢ fault.NoMemory
-      → IsRequestOf text (Ok request) → IsRequestOf text (Err (record_fault.Fault why)) → ⊥
-  none_refused text request why other is its = no_fault request why other
-      (laws.request text (Ok request) (Err (record_fault.Fault why)) is its)
+      → IsQueryOf text (Ok (Reference request)) → IsQueryOf text (Err (record_fault.Fault why)) → ⊥
+  none_refused text request why other is its = no_fault (Reference request) why other
+      (laws.request text (Ok (Reference request)) (Err (record_fault.Fault why)) is its)
+
+  -- ---- what is answered to a text that asks for a request of a reference
+
+  module _ (road : RoadMap) (text : List ℕ) (request : Request)
+      (asked : IsQueryOf text (Ok (Reference request))) where
+    no_lines : (other : LinesRequest) → IsQueryOf text (Ok (Lines other)) → ⊥
+    no_lines other its = unlike request other
+        (laws.request text (Ok (Reference request)) (Ok (Lines other)) asked its)
+
+    no_legs : (other : LegsRequest) → IsQueryOf text (Ok (Legs other)) → ⊥
+    no_legs other its = unlike_legs request other
+        (laws.request text (Ok (Reference request)) (Ok (Legs other)) asked its)
+
+    answers_request : (answer : List ℕ) (query : Query) → IsQueryOf text (Ok query)
+        → IsAnswerTo road query answer → IsAnswerOfMany road request (Ok answer)
+    answers_request answer (Reference one) its is =
+        moved road one request (Ok answer) (same_request text one request its asked) is
+    answers_request answer (Legs other) its is = absurd (no_legs other its)
+    answers_request answer (Lines other) its is = absurd (no_lines other its)
+
+    faults_request : (why has : Fault) (query : Query) → why ≢ fault.NoMemory
+        → fault_of_request why ≡ fault_of_request has → IsQueryOf text (Ok query)
+        → IsFaultTo road query has → IsAnswerOfMany road request (Err why)
+    faults_request why has (Reference one) other same its is =
+        moved road one request (Err why) (same_request text one request its asked)
+        (answer_of road one why has other same is)
+    faults_request why has (Legs legs) other same its is = absurd (no_legs legs its)
+    faults_request why has (Lines lines) other same its is = absurd (no_lines lines its)
 
   -- ---- beside `batch`
 
@@ -47,29 +82,27 @@ module _ (laws : LawsBelow) where
     abbrev alone : Request
     alone = asked_alone question.what question.tolerances (at_bytes reference)
 
-    to_text : (one : Request) → one ≡ alone → IsAnswerOfMany road one answer
-        → IsAnswerOfMany road asks.request answer
-    to_text one same is = cast (sym (placed road asks.request answer))
-        (subst (λ (r : Request). IsAnswerOfMany road r answer) (same ∙ sym asks.alone) is)
+    to_text : IsAnswerOfMany road alone answer → IsAnswerOfMany road asks.request answer
+    to_text is = cast (sym (placed road asks.request answer))
+        (subst (λ (r : Request). IsAnswerOfMany road r answer) (sym asks.alone) is)
 
-    to_reference : (one : Request) → IsRequestOf text (Ok one) → IsAnswerOfMany road one answer
-        → IsAnswerOfMany road alone answer
-    to_reference one asked is =
-        subst (λ (r : Request). IsAnswerOfMany road r answer) asks.alone
-        (cast (placed road asks.request answer)
-        (moved road one asks.request answer (same_request text one asks.request asked asks.asked) is))
+    to_reference : IsAnswerOfMany road asks.request answer → IsAnswerOfMany road alone answer
+    to_reference is = subst (λ (r : Request). IsAnswerOfMany road r answer) asks.alone
+        (cast (placed road asks.request answer) is)
 
   pub batch_is_answer : BatchIsAnswer
   batch_is_answer question road reference text output asks = (
     λ reply. (
-      asks.request,
+      Reference asks.request,
       asks.asked,
-      to_text question road reference text asks (Ok output) reply.0 (same_ok reply.1) reply.2,
+      to_text question road reference text asks (Ok output)
+          (subst (λ (q : Query). IsAnswerTo road q output) (same_ok reply.1) reply.2),
     ),
     λ reply. (
-      asked_alone question.what question.tolerances (at_bytes reference),
+      Reference (asked_alone question.what question.tolerances (at_bytes reference)),
       refl,
-      to_reference question road reference text asks (Ok output) reply.0 reply.1 reply.2,
+      to_reference question road reference text asks (Ok output)
+          (answers_request road text asks.request asks.asked output reply.0 reply.1 reply.2),
     ),
   )
 
@@ -78,22 +111,24 @@ module _ (laws : LawsBelow) where
     λ is. elim is [
       | inl never ↦ no_ok_and_err (sym never)
       | inr has ↦ inr (
-        asks.request,
+        Reference asks.request,
         why,
         asks.asked,
-        inl (to_text question road reference text asks (Err why) has.0 (same_ok has.2)
-            (answer_of road has.0 why has.1 other has.4 has.3)),
+        inl (to_text question road reference text asks (Err why)
+            (answer_of road _ why has.1 other has.4
+            (subst (λ (q : Query). IsFaultTo road q has.1) (same_ok has.2) has.3))),
         refl,
       )
     ],
     λ is. elim is [
       | inl never ↦ absurd (none_refused text asks.request why other asks.asked never)
       | inr has ↦ inr (
-        asked_alone question.what question.tolerances (at_bytes reference),
+        Reference (asked_alone question.what question.tolerances (at_bytes reference)),
         why,
         refl,
-        inl (to_reference question road reference text asks (Err why) has.0 has.2
-            (answer_of road has.0 why has.1 other has.4 has.3)),
+        inl (to_reference question road reference text asks (Err why)
+            (faults_request road text asks.request asks.asked why has.1 has.0 other has.4 has.2
+            has.3)),
         refl,
       )
     ],
@@ -131,17 +166,33 @@ module _ (laws : LawsBelow) where
   pub requests_are_of_runs : RequestsAreOfRuns
   requests_are_of_runs nodes lines bans road text request output answer is_map asked run reply =
       output_of_run nodes lines bans road is_map request output answer run
-      (moved road reply.0 request (Ok answer) (same_request text reply.0 request reply.1 asked)
-      reply.2)
+      (answers_request road text request asked answer reply.0 reply.1 reply.2)
 
   pub request_faults_are_of_runs : RequestFaultsAreOfRuns
   request_faults_are_of_runs nodes lines bans road text request why is_map asked other =
       let run = fault_of_run nodes lines bans road is_map request why in (
-        λ is. inr (request, why, asked, inl (run.0 is), refl),
+        λ is. inr (Reference request, why, asked, inl (run.0 is), refl),
         λ is. elim is [
           | inl never ↦ absurd (none_refused text request why other asked never)
-          | inr has ↦ run.1 (moved road has.0 request (Err why)
-              (same_request text has.0 request has.2 asked)
-              (answer_of road has.0 why has.1 other has.4 has.3))
+          | inr has ↦ run.1
+              (faults_request road text request asked why has.1 has.0 other has.4 has.2 has.3)
         ],
       )
+
+  -- ---- lines
+
+  lines_answered : (road : RoadMap) (text : List ℕ) (asked : LinesRequest) (answer : List ℕ)
+      (query : Query) → IsQueryOf text (Ok (Lines asked)) → IsQueryOf text (Ok query)
+      → IsAnswerTo road query answer → AreLinesPrinted asked road answer
+  lines_answered road text asked answer (Reference request) lines its is = absurd (unlike request asked
+      (laws.request text (Ok (Reference request)) (Ok (Lines asked)) its lines))
+  lines_answered road text asked answer (Legs other) lines its is = absurd (lines_unlike_legs asked
+      other (laws.request text (Ok (Lines asked)) (Ok (Legs other)) lines its))
+  lines_answered road text asked answer (Lines other) lines its is =
+      subst (λ (r : LinesRequest). AreLinesPrinted r road answer)
+      (same_lines other asked (laws.request text (Ok (Lines other)) (Ok (Lines asked)) its lines)) is
+
+  pub lines_are_of_runs : LinesAreOfRuns
+  lines_are_of_runs road text asked output answer lines run reply =
+      one_output asked road answer output
+      (lines_answered road text asked answer reply.0 lines reply.1 reply.2) run

@@ -1,6 +1,6 @@
 -- A request has one answer by known texts, from the laws of the crates below.
 use Rattle.olr_text.specs.JsonValues.{IsJsonLine}
-use Rattle.olr_app_laws.proofs.Common.{Reference, IsSoundMap, RoadMap, AreLists, Entry, Candidate, Tolerances, AreAnswers, KeyValue, IsKey, IsPageAfter, PageValue, Penalties, CursorRead, Mark, LayersValue, next_after, IsStart, Accepts, IsAnswer, IsAnswerOf, IsAnswerOn, IsMapOfFiles, fault_of_map, fault_of, OneOutcome, AreLayers, AreMatchings, ArePages, ArePagesAsked, IsOfInputs, IsPageAsAsked, IsPageIn, IsPageTextWith, IsPrinted, IsStartHere, IsTextOfPage, OnLayers, OnStart, key_of, text_of, Accepted, TooManyCandidates, Format, Json, Text, MatchRequest, Pages, One, Request, Candidates, Match, Places, Show, ◌≡◌, ℕ, ◌+◌, suc, Bool, true, false, List, [], ◌∷◌, None, Option, Some, Ok, Err, refl, ap, sym, subst, ◌∙◌, arith, inl, inr, All, All-contains, All-head, All-tail, none-some, AllZip, concat, Contains, IfSome, if◌then◌else◌, Data, Laws, known, RefusedByName, cursor_in, Why, accepted_once, IsSingle, first_then, no_fault_once, no_ok_and_err, same_err}
+use Rattle.olr_app_laws.proofs.Common.{Reference, IsSoundMap, RoadMap, AreLists, Entry, Candidate, Tolerances, AreAnswers, KeyValue, IsKey, IsPageAfter, PageValue, Penalties, CursorRead, Mark, LayersValue, next_after, IsStart, Accepts, IsAnswer, IsAnswerOf, IsAnswerOn, IsMapOfFiles, fault_of_map, fault_of, OneOutcome, AreLayers, AreMatchings, ArePages, ArePagesAsked, IsOfInputs, IsPageAsAsked, IsPageIn, IsPageTextWith, IsPrinted, IsStartHere, IsTextOfPage, OnLayers, OnStart, key_of, text_of, Accepted, TooManyCandidates, Format, Json, Text, MatchRequest, Pages, One, Request, Candidates, Match, Places, Show, ◌≡◌, ℕ, ◌+◌, suc, Bool, true, false, List, [], ◌∷◌, None, Option, Some, Ok, Err, refl, ap, sym, subst, ◌∙◌, arith, inl, inr, All, All-contains, All-head, All-tail, none-some, AllZip, concat, Contains, IfSome, if◌then◌else◌, Data, Laws, known, RefusedByName, cursor_in, Why, accepted_once, IsSingle, first_then, no_fault_once, no_ok_and_err, same_err, cursor_of}
 use Rattle.olr_detail.specs.MatchingDetail.{Detailed, IsDetailed, entries_of}
 use Rattle.olr_detail.specs.declared.candidate_detail.CandidateDetail.{CandidateDetail}
 use Rattle.olr_app.proofs.PagesOf.{same_road}
@@ -434,7 +434,7 @@ module _ (laws : Laws) where
 
     pub answer_once : (request : Request) → IsSingle (IsAnswer (known nodes lines bans) request)
     answer_once request = first_then _ (IsAnswerOf (known nodes lines bans) request)
-        (accepted_once laws.outcome laws.cursor request) (of_files_once request)
+        (accepted_once laws.outcome laws.cursor (text_of request) (cursor_of request)) (of_files_once request)
 
 pub refused_by_name : OneOutcome → RefusedByName
 refused_by_name law texts request refused (Ok output) is its =

@@ -5,17 +5,22 @@ use Rattle.std.specs.Borrow.{Bor}
 use Rattle.olr_map.specs.Files.{IsMapOf, known}
 use Rattle.olr_road.specs.RoadMap.{IsSoundMap, RoadMap}
 use Rattle.olr_app.specs.Answer.{IsAnswer as IsAnswerOfRun, IsAnswerOfMany}
+use Rattle.olr_app.specs.Lines.{AreLinesPrinted}
 use Rattle.olr_app_laws.specs.AnswerLaws.{FaultIsOfRun, IsSameOutput, OneAnswerOfMany, OutputIsOfRun, ShowsSame}
 use Rattle.olr_request.specs.Question.{asked_alone}
 use Rattle.olr_request.specs.Request.{at_bytes}
 use Rattle.olr_app.specs.Stages.{IsSingle}
 use Rattle.olr_request.specs.declared.fault.Fault.{Fault}
 use Rattle.olr_request.specs.declared.fault.Fault.TheVariants as fault
-use Rattle.olr_batch.specs.Answers.{IsFaultFor, IsReply}
+use Rattle.olr_batch.specs.Answers.{IsAsked, IsFaultFor, IsReply}
 use Rattle.olr_request.specs.declared.request.Format.TheVariants.{Json}
+use Rattle.olr_request.specs.declared.request.LegsRequest.{LegsRequest}
+use Rattle.olr_request.specs.declared.request.LinesRequest.{LinesRequest}
+use Rattle.olr_request.specs.declared.request.Query.{Query}
+use Rattle.olr_request.specs.declared.request.Query.TheVariants.{Legs, Lines, Reference}
 use Rattle.olr_request.specs.declared.request.Request.{Request}
 use Rattle.olr_words.specs.OneRequest.{AreEqual, StateTheSame, placeless}
-use Rattle.olr_words.specs.Record.{IsRequestOf}
+use Rattle.olr_words.specs.Record.{IsQueryOf}
 use Rattle.olr_words.specs.declared.record.RecordFault.{RecordFault}
 use Rattle.olr_words.specs.declared.record.RecordFault.TheVariants as record_fault
 use Rattle.olr_words.specs.declared.words.Records.{Records}
@@ -76,12 +81,17 @@ shown (Err (record_fault.Words line)) = Some (Err None)
 shown (Err (record_fault.Fault fault.NoMemory)) = None
 shown (Err (record_fault.Fault why)) = Some (Err (Some why))
 
+-- a text doesn't ask for the legs of a matching
+abbrev pub AsksForNoLegs : Records → List ℕ → Type 0
+AsksForNoLegs records text = (asked : LegsRequest) → ¬ (IsAsked records text (Ok (Legs asked)))
+
 -- The text of a record has one answer or one fault at most, and not both, by the map, by what records
--- are and by that text alone: also where the text is a whole request. `NoMemory` may come in place of
--- either, and the line of a fault of words isn't stated.
+-- are and by that text alone: also where the text is a whole request, but for one for legs, whose
+-- search may be cut in more than one place. `NoMemory` may come in place of either, and the line of a
+-- fault of words isn't stated.
 abbrev pub OneReply : Type 0
 OneReply = (records : Records) (road : RoadMap) (text : List ℕ)
-    (one other : Result (List ℕ) RecordFault) → IsSoundMap road
+    (one other : Result (List ℕ) RecordFault) → IsSoundMap road → AsksForNoLegs records text
     → Replies records road text one → Replies records road text other
     → AreEqual (shown one) (shown other)
 
@@ -90,7 +100,7 @@ OneReply = (records : Records) (road : RoadMap) (text : List ℕ)
 -- the text of a request asks a question of a reference, as `batch` does
 pub record AsksAlone (question : Question) (reference text : List ℕ) : Type 0 where
   pub request : Request
-  pub asked : IsRequestOf text (Ok request)
+  pub asked : IsQueryOf text (Ok (Reference request))
   pub alone : placeless request
       ≡ asked_alone question.what question.tolerances (at_bytes reference)
 
@@ -111,7 +121,8 @@ BatchFaultIsAnswers = (question : Question) (road : RoadMap) (reference text : L
 -- for the mark in the cursor at the end of a page.
 abbrev pub RequestsAreOfRuns : Type 0
 RequestsAreOfRuns = (nodes lines bans : List ℕ) (road : RoadMap) (text : List ℕ) (request : Request)
-    (output answer : List ℕ) → IsMapOf nodes lines bans road → IsRequestOf text (Ok request)
+    (output answer : List ℕ) → IsMapOf nodes lines bans road
+    → IsQueryOf text (Ok (Reference request))
     → IsAnswerOfRun (known nodes lines bans) request (Ok output)
     → IsReply Requests road text answer → IsSameOutput request road output answer
 
@@ -119,16 +130,25 @@ RequestsAreOfRuns = (nodes lines bans : List ℕ) (road : RoadMap) (text : List 
 abbrev pub RequestFaultsAreOfRuns : Type 0
 RequestFaultsAreOfRuns = (nodes lines bans : List ℕ) (road : RoadMap) (text : List ℕ)
     (request : Request) (why : Fault) → IsMapOf nodes lines bans road
-    → IsRequestOf text (Ok request) → why ≢ fault.NoMemory
+    → IsQueryOf text (Ok (Reference request)) → why ≢ fault.NoMemory
     → IsAnswerOfRun (known nodes lines bans) request (Err why)
     ↔ IsFaultFor Requests road text (record_fault.Fault why)
+
+-- ---- lines, beside a run for them
+
+-- The text of a request for lines is answered by what a run for them prints on the same map: there is
+-- one output.
+abbrev pub LinesAreOfRuns : Type 0
+LinesAreOfRuns = (road : RoadMap) (text : List ℕ) (asked : LinesRequest) (output answer : List ℕ)
+    → IsQueryOf text (Ok (Lines asked)) → AreLinesPrinted asked road output
+    → IsReply Requests road text answer → answer ≡ output
 
 -- ---- what these rest on
 
 -- the words of a text ask for one thing
 abbrev pub OneRequest : Type 0
-OneRequest = (text : List ℕ) (one other : Result Request RecordFault) → IsRequestOf text one
-    → IsRequestOf text other → StateTheSame one other
+OneRequest = (text : List ℕ) (one other : Result Query RecordFault) → IsQueryOf text one
+    → IsQueryOf text other → StateTheSame one other
 
 -- The laws that these rest on.
 pub record LawsBelow : Type 0 where

@@ -2,7 +2,7 @@
 
 ghost use Rattle.olr_app_laws.specs.RecordLaws.{AnswersAreOfRuns, BatchFaultIsAnswers};
 ghost use Rattle.olr_app_laws.specs.RecordLaws.{BatchIsAnswer, FaultsAreOfRuns, LawsBelow, OneAnswer};
-ghost use Rattle.olr_app_laws.specs.RecordLaws.{OneReply, RequestFaultsAreOfRuns, RequestsAreOfRuns};
+ghost use Rattle.olr_app_laws.specs.RecordLaws.{LinesAreOfRuns, OneReply, RequestFaultsAreOfRuns, RequestsAreOfRuns};
 
 use crate::laws::answers_of_many;
 use olr_words::one_request_of_record;
@@ -30,7 +30,8 @@ pub fn answers_are_of_runs()
 
 /// The text of a record has one answer at most, or one fault in place of it, and not both: a function
 /// of the map, of what records are and of the text alone, whatever stands before it. That holds of
-/// references and of whole requests. [`NoMemory`](olr_app::Fault::NoMemory) may come in place of
+/// references and of whole requests, but for those for the legs of a matching, whose search may be cut
+/// in more than one place. [`NoMemory`](olr_app::Fault::NoMemory) may come in place of
 /// either, and the line for words that aren't understood isn't stated.
 pub fn one_reply()
     ensures { OneReply }
@@ -55,6 +56,14 @@ pub fn batch_is_answer()
 pub fn requests_are_of_runs()
     ensures answer { RequestsAreOfRuns }
     ensures fault { RequestFaultsAreOfRuns }
+{
+    laws_below();
+}
+
+/// The answer to a record that asks for lines of the map is what [`run_lines`](olr_app::run_lines)
+/// prints for them on the same map: the same bytes.
+pub fn lines_are_of_runs()
+    ensures { LinesAreOfRuns }
 {
     laws_below();
 }
