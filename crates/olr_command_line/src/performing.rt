@@ -5,7 +5,10 @@ ghost use Rattle.std.specs.Io.KnownBytes.{Appends};
 ghost use Rattle.olr_explain.specs.Explaining.{explained_text};
 
 use crate::opening::{Disk, MapFiles, NO_BANS, open, open_files};
-use olr_app::{Fault, In, Request, Sink, Source, put_whole, run};
+use olr_app::{
+    Fault, In, LegsRequest, LinesRequest, Request, Sink, Source, put_whole, run, run_legs,
+    run_lines,
+};
 use olr_batch::run_batch;
 use olr_explain::{Section, Topic, explained, faults};
 use olr_words::{Asked, Files, Input, Records, Rejected, asked_of};
@@ -34,6 +37,46 @@ fn answer_one<D: Disk, O: Sink>(
         return run(alloc, request, &mut nodes, &mut lines, &mut no_bans, out);
     };
     run(alloc, request, &mut nodes, &mut lines, &mut bans, out)
+}
+
+/// Answers a request for the legs of a matching on the map of these files.
+fn answer_legs<D: Disk, O: Sink>(
+    alloc: Global,
+    asked: &LegsRequest<'_>,
+    files: &Files<'_>,
+    disk: &mut D,
+    out: &mut O,
+) -> Result<(), Fault> {
+    let MapFiles {
+        mut nodes,
+        mut lines,
+        bans,
+    } = open_files(alloc, disk, files)?;
+    let Some(mut bans) = bans else {
+        let mut no_bans = In::new(NO_BANS);
+        return run_legs(alloc, asked, &mut nodes, &mut lines, &mut no_bans, out);
+    };
+    run_legs(alloc, asked, &mut nodes, &mut lines, &mut bans, out)
+}
+
+/// Answers a request for the lines of the map of these files.
+fn answer_lines<D: Disk, O: Sink>(
+    alloc: Global,
+    asked: &LinesRequest,
+    files: &Files<'_>,
+    disk: &mut D,
+    out: &mut O,
+) -> Result<(), Fault> {
+    let MapFiles {
+        mut nodes,
+        mut lines,
+        bans,
+    } = open_files(alloc, disk, files)?;
+    let Some(mut bans) = bans else {
+        let mut no_bans = In::new(NO_BANS);
+        return run_lines(alloc, asked, &mut nodes, &mut lines, &mut no_bans, out);
+    };
+    run_lines(alloc, asked, &mut nodes, &mut lines, &mut bans, out)
 }
 
 /// Answers the records of an input on the map of these files.
@@ -118,6 +161,8 @@ fn answer<D: Disk, O: Sink>(
 ) -> Result<(), Fault> {
     match asked {
         Asked::One(request, files) => answer_one(alloc, request, files, disk, out),
+        Asked::Legs(asked, files) => answer_legs(alloc, asked, files, disk, out),
+        Asked::Lines(asked, files) => answer_lines(alloc, asked, files, disk, out),
         Asked::Many(records, files, input) => {
             answer_many(alloc, records, files, *input, disk, out)
         },
@@ -133,8 +178,8 @@ fn answer<D: Disk, O: Sink>(
 ///
 /// What [`asked_of`] rejects, and no file is opened then; else [`Fault::OpenFailed`] with the first
 /// file that can't be opened, the nodes before the lines and these before the bans, or
-/// [`Fault::InputNotOpened`], which comes last; else the fault that [`run`] or [`run_batch`]
-/// answers. The caller prints the error where [`Rejected::is_help`] says, and ends with
+/// [`Fault::InputNotOpened`], which comes last; else the fault that [`run`], [`run_legs`], [`run_lines`] or
+/// [`run_batch`] answers. The caller prints the error where [`Rejected::is_help`] says, and ends with
 /// [`Rejected::status`].
 pub fn perform<D: Disk, O: Sink>(
     alloc: Global,
