@@ -13,6 +13,8 @@ mod drawn_tables;
 #[cfg(test)]
 mod fingerprints;
 #[cfg(test)]
+mod legs;
+#[cfg(test)]
 mod locations;
 #[cfg(test)]
 mod long_tables;
