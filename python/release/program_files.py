@@ -63,7 +63,7 @@ def manual(state: State, program: Path) -> bytes:
     options = {" ".join(it.words): numbers_of(it) for it in commands_of(program)}
     tolerances = options["candidates"]
     values = {"TOLERANCES": _items(tolerances)}
-    for question in ("match", "places", "why"):
+    for question in ("match", "places", "why", "legs", "lines"):
         own = (number for number in options[question] if number not in tolerances)
         values[f"NUMBERS_OF_{question.upper()}"] = _items(own)
     return filled(state, "olr.1", **values)

@@ -8,7 +8,7 @@ from typing import NamedTuple
 
 from olr.errors import ToolError
 
-OPTION_ROW = re.compile(r"(?m)^ +(?:-\w, )?(--[a-z-]+)(?: <([A-Z]+)>)?  +(.*)$")
+OPTION_ROW = re.compile(r"(?m)^ +(?:-\w, )?(--[a-z-]+)(?: <([A-Z,]+)>)?  +(.*)$")
 """An option in a help: its name, what it takes, and what it is for."""
 
 COMMAND_ROW = re.compile(r"(?m)^  ([a-z-]+)  +(.*)$")
@@ -25,7 +25,7 @@ EXPLAIN = "explain"
 
 
 class Option(NamedTuple):
-    """An option: its name with dashes; what it takes, as `FILE` or `N`, or an empty text; what it is for; its default, and its
+    """An option: its name with dashes; what it takes, as `FILE`, `N` or `W,S,E,N`, or an empty text; what it is for; its default, and its
     values if they are few."""
 
     name: str

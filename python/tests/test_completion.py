@@ -98,7 +98,7 @@ def test_olr_offers_what_its_helps_have(program: Program, offered: Offered) -> N
         assert found - set(faults if command == ("explain",) else []) == options | names
         assert offered("olr", *command, "--h") >= {"--help"}
         tried += 1
-    assert tried >= 11
+    assert tried >= 15
 
 
 def test_names_of_faults(offered: Offered) -> None:
@@ -111,6 +111,8 @@ def test_values_of_olr(offered: Offered) -> None:
     assert offered("olr", "match", "REF", "--map", "") == {"town"}
     assert offered("olr", "match", "REF", "--format", "j") == {"json"}
     assert offered("olr", "match", "REF", "--radius", "") == set()
+    assert offered("olr", "legs", "REF", "--format", "") == {"json", "geojson"}
+    assert offered("olr", "lines", "--box", "") == set()
     assert offered("olr", "match", "REF", "--radius", "5", "--ra") == {"--radius"}
     assert offered("olr", "batch", "why", "--input", "n") == {"nodes.csv"}
     assert offered("olr", "show", "*", "--f") == {"--format"}

@@ -45,7 +45,7 @@ def test_the_man_page_has_all_of_the_help(program: Program) -> None:
         for explained, default in re.findall(r"--[a-z]+ <N> ([^<]*?) \[default: (\d+)\]", whole):
             assert f"{explained}. By default {default}.\n" in page
             told += 1
-    assert told >= 6 * 8 + 2 * (1 + 4 + 1)
+    assert told >= 6 * 9 + 2 * (1 + 4 + 1) + 2
 
 
 def test_the_man_page_of_the_tools_has_each_command() -> None:
