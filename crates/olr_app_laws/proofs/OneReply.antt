@@ -15,8 +15,8 @@ use Rattle.olr_app_laws.specs.RecordLaws.{AsksForNoLegs, LawsBelow, OneReply, Re
 use Rattle.olr_words.specs.OneRequest.{AreEqual, StateTheSame, placeless, placeless_pages, stated}
 use Rattle.olr_words.specs.declared.record.RecordFault.{RecordFault}
 use Rattle.olr_words.specs.declared.record.RecordFault.TheVariants as record_fault
-use Rattle.olr_words.specs.declared.words.Records.{Records}
-use Rattle.olr_words.specs.declared.words.Records.TheVariants.{References, Requests}
+use Rattle.olr_words.specs.declared.asked.Records.{Records}
+use Rattle.olr_words.specs.declared.asked.Records.TheVariants.{References, Requests}
 
 pub cast : {A B : Type 0} → A ≡ B → A → B
 cast same is = subst (λ (T : Type 0). T) same is

@@ -23,8 +23,8 @@ use Rattle.olr_words.specs.OneRequest.{AreEqual, StateTheSame, placeless}
 use Rattle.olr_words.specs.Record.{IsQueryOf}
 use Rattle.olr_words.specs.declared.record.RecordFault.{RecordFault}
 use Rattle.olr_words.specs.declared.record.RecordFault.TheVariants as record_fault
-use Rattle.olr_words.specs.declared.words.Records.{Records}
-use Rattle.olr_words.specs.declared.words.Records.TheVariants.{References, Requests}
+use Rattle.olr_words.specs.declared.asked.Records.{Records}
+use Rattle.olr_words.specs.declared.asked.Records.TheVariants.{References, Requests}
 use Rattle.olr_request.specs.declared.question.Question.{Question}
 use Rattle.olr_request.specs.declared.question.QuestionKind.{QuestionKind}
 use Rattle.olr_request.specs.declared.question.QuestionKind.TheVariants.{Match}

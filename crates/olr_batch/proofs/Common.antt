@@ -18,6 +18,6 @@ pub use Rattle.olr_messages.specs.Messages.{IsNext, IsOver, left_of}
 pub use Rattle.olr_request.specs.declared.fault.Fault.TheVariants.{InputNotRead, NoMemory, WriteFailed}
 pub use Rattle.olr_request.specs.declared.fault.Fault.{Fault}
 pub use Rattle.olr_road.specs.RoadMap.{RoadMap}
-pub use Rattle.olr_words.specs.declared.words.Records.{Records}
+pub use Rattle.olr_words.specs.declared.asked.Records.{Records}
 pub use Rattle.serde_json.specs.Data.{Data}
 pub use Rattle.serde_json.specs.Written.{compact_text}

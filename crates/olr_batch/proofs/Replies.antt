@@ -13,7 +13,7 @@ use Rattle.olr_request.specs.declared.request.Query.TheVariants.{Reference}
 use Rattle.olr_request.specs.declared.request.Request.{Request}
 use Rattle.olr_batch.specs.Answers.{IsFaultFor, IsReply}
 use Rattle.olr_words.specs.declared.record.RecordFault.TheVariants as record_fault
-use Rattle.olr_words.specs.declared.words.Records.TheVariants.{References}
+use Rattle.olr_words.specs.declared.asked.Records.TheVariants.{References}
 
 -- a text is accepted by its bytes, wherever it lies
 accepted_alone : (what : QuestionKind) (tolerances : Tolerances) (text : Bor (List ℕ))

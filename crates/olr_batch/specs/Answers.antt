@@ -13,8 +13,8 @@ use Rattle.olr_request.specs.declared.request.Query.TheVariants.{Legs, Lines, Re
 use Rattle.olr_words.specs.Record.{IsQueryOf}
 use Rattle.olr_words.specs.declared.record.RecordFault.{RecordFault}
 use Rattle.olr_words.specs.declared.record.RecordFault.TheVariants as record_fault
-use Rattle.olr_words.specs.declared.words.Records.{Records}
-use Rattle.olr_words.specs.declared.words.Records.TheVariants.{References, Requests}
+use Rattle.olr_words.specs.declared.asked.Records.{Records}
+use Rattle.olr_words.specs.declared.asked.Records.TheVariants.{References, Requests}
 
 -- What a text asks for, or why it asks for nothing. A reference is asked the question of all records.
 -- A request says by its own words what is asked.

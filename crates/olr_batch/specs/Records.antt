@@ -7,7 +7,7 @@ use Rattle.olr_batch.specs.Answers.{IsFaultFor, IsReply}
 use Rattle.olr_batch.specs.Line.{line_text}
 use Rattle.olr_words.specs.Record.{record_fault_text}
 use Rattle.olr_words.specs.declared.record.RecordFault.{RecordFault}
-use Rattle.olr_words.specs.declared.words.Records.{Records}
+use Rattle.olr_words.specs.declared.asked.Records.{Records}
 
 -- the line of a record that has a fault in place of an answer
 abbrev pub fault_line : List ℕ → Option (List ℕ) → ℕ → List ℕ

@@ -16,7 +16,7 @@ use Rattle.olr_request.specs.declared.fault.Fault.{Fault}
 use Rattle.olr_request.specs.declared.fault.Fault.TheVariants.{InputNotRead, NoMemory, WriteFailed}
 use Rattle.olr_batch.specs.Records.{AreWrittenFor, IsWrittenFor}
 use Rattle.olr_batch.specs.Steps.{HasPassedOn}
-use Rattle.olr_words.specs.declared.words.Records.{Records}
+use Rattle.olr_words.specs.declared.asked.Records.{Records}
 
 -- these are the first lines of an input, if its bytes are known, and the lines of the other bytes
 -- are left

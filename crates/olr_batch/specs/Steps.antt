@@ -9,7 +9,7 @@ use Rattle.olr_app.specs.Writing.{HasStopped}
 use Rattle.olr_request.specs.declared.fault.Fault.{Fault}
 use Rattle.olr_request.specs.declared.fault.Fault.TheVariants.{InputNotRead, NoMemory, WriteFailed}
 use Rattle.olr_batch.specs.Records.{IsWrittenFor}
-use Rattle.olr_words.specs.declared.words.Records.{Records}
+use Rattle.olr_words.specs.declared.asked.Records.{Records}
 
 module _ {O : Type 0} (flush_gives : O → Result (Unit {0}) Failed → O → Type 0) where
   -- the last call on the sink passed on what it had taken

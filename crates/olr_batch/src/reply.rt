@@ -5,7 +5,7 @@ ghost use Rattle.olr_request.specs.Question.{asked_alone};
 ghost use Rattle.olr_batch.specs.Answers.{IsAnswerTo, IsFaultFor, IsFaultTo, IsReply};
 ghost use Rattle.olr_request.specs.declared.fault.Fault.{Fault};
 ghost use Rattle.olr_words.specs.declared.record.RecordFault.TheVariants as record_fault;
-ghost use Rattle.olr_words.specs.declared.words.Records.TheVariants.{References, Requests};
+ghost use Rattle.olr_words.specs.declared.asked.Records.TheVariants.{References, Requests};
 
 use olr_app::{Format, MapForRequests, Pages, Query, Question, Request, legs_on_map, lines_of};
 use olr_words::{LastQuestion, RecordFault, Records, request_of_record, words_of_record};

@@ -1,6 +1,7 @@
 //! What opens files, and the open files of a map.
 
-use olr_app::{Fault, File, Source};
+use either::Either;
+use olr_app::{Fault, File, In, Source};
 use olr_words::Files;
 use std::alloc::Global;
 
@@ -44,12 +45,15 @@ pub(crate) fn open<D: Disk>(disk: &mut D, path: &str, fault: Fault) -> Result<D:
     }
 }
 
-/// The open files of a map.
+/// What a file of bans holds where a map has none: its header alone.
+const NO_BANS: &[u8] = b"from,to\n";
+
+/// The open files of a map. Where it has no file of bans, its bans are [`NO_BANS`].
 #[derive(Drop)]
 pub(crate) struct MapFiles<F: Drop> {
     pub(crate) nodes: F,
     pub(crate) lines: F,
-    pub(crate) bans: Option<F>,
+    pub(crate) bans: Either<F, In<&'static [u8]>>,
 }
 
 /// Opens the files of these paths, the nodes first.
@@ -62,8 +66,8 @@ fn open_paths<D: Disk>(
     let nodes = open(disk, nodes, Fault::OpenFailed(File::Nodes))?;
     let lines = open(disk, lines, Fault::OpenFailed(File::Lines))?;
     let bans = match bans {
-        Some(path) => Some(open(disk, path, Fault::OpenFailed(File::Bans))?),
-        None => None,
+        Some(path) => Either::Left(open(disk, path, Fault::OpenFailed(File::Bans))?),
+        None => Either::Right(In::new(NO_BANS)),
     };
     Ok(MapFiles { nodes, lines, bans })
 }
@@ -105,6 +109,3 @@ pub(crate) fn open_files<D: Disk>(
         Files::Folder(folder) => open_folder(alloc, disk, folder),
     }
 }
-
-/// What a file of bans holds where a map has none: its header alone.
-pub(crate) const NO_BANS: &[u8] = b"from,to\n";

@@ -4,7 +4,7 @@ ghost use Rattle.std.specs.Prelude.{◌≡◌, OnOk};
 ghost use Rattle.std.specs.Io.KnownBytes.{Appends};
 ghost use Rattle.olr_explain.specs.Explaining.{explained_text};
 
-use crate::opening::{Disk, MapFiles, NO_BANS, open, open_files};
+use crate::opening::{Disk, MapFiles, open, open_files};
 use olr_app::{
     Fault, In, LegsRequest, LinesRequest, Request, Sink, Source, put_whole, run, run_legs,
     run_lines,
@@ -22,21 +22,21 @@ fn answer_one<D: Disk, O: Sink>(
     disk: &mut D,
     out: &mut O,
 ) -> Result<(), Fault> {
-    let mut no_bans = In::new(NO_BANS);
     let Some(files) = files else {
         let mut nodes = In::new(&[] as &[u8]);
         let mut lines = In::new(&[] as &[u8]);
-        return run(alloc, request, &mut nodes, &mut lines, &mut no_bans, out);
+        let mut bans = In::new(&[] as &[u8]);
+        return run(alloc, request, &mut nodes, &mut lines, &mut bans, out);
     };
-    let MapFiles {
-        mut nodes,
-        mut lines,
-        bans,
-    } = open_files(alloc, disk, files)?;
-    let Some(mut bans) = bans else {
-        return run(alloc, request, &mut nodes, &mut lines, &mut no_bans, out);
-    };
-    run(alloc, request, &mut nodes, &mut lines, &mut bans, out)
+    let mut files = open_files(alloc, disk, files)?;
+    run(
+        alloc,
+        request,
+        &mut files.nodes,
+        &mut files.lines,
+        &mut files.bans,
+        out,
+    )
 }
 
 /// Answers a request for the legs of a matching on the map of these files.
@@ -47,16 +47,15 @@ fn answer_legs<D: Disk, O: Sink>(
     disk: &mut D,
     out: &mut O,
 ) -> Result<(), Fault> {
-    let MapFiles {
-        mut nodes,
-        mut lines,
-        bans,
-    } = open_files(alloc, disk, files)?;
-    let Some(mut bans) = bans else {
-        let mut no_bans = In::new(NO_BANS);
-        return run_legs(alloc, asked, &mut nodes, &mut lines, &mut no_bans, out);
-    };
-    run_legs(alloc, asked, &mut nodes, &mut lines, &mut bans, out)
+    let mut files = open_files(alloc, disk, files)?;
+    run_legs(
+        alloc,
+        asked,
+        &mut files.nodes,
+        &mut files.lines,
+        &mut files.bans,
+        out,
+    )
 }
 
 /// Answers a request for the lines of the map of these files.
@@ -67,45 +66,33 @@ fn answer_lines<D: Disk, O: Sink>(
     disk: &mut D,
     out: &mut O,
 ) -> Result<(), Fault> {
-    let MapFiles {
-        mut nodes,
-        mut lines,
-        bans,
-    } = open_files(alloc, disk, files)?;
-    let Some(mut bans) = bans else {
-        let mut no_bans = In::new(NO_BANS);
-        return run_lines(alloc, asked, &mut nodes, &mut lines, &mut no_bans, out);
-    };
-    run_lines(alloc, asked, &mut nodes, &mut lines, &mut bans, out)
+    let mut files = open_files(alloc, disk, files)?;
+    run_lines(
+        alloc,
+        asked,
+        &mut files.nodes,
+        &mut files.lines,
+        &mut files.bans,
+        out,
+    )
 }
 
 /// Answers the records of an input on the map of these files.
 fn answer_input<F: Source + Drop, I: Source, O: Sink>(
     alloc: Global,
     records: &Records,
-    files: MapFiles<F>,
+    mut files: MapFiles<F>,
     input: &mut I,
     out: &mut O,
 ) -> Result<(), Fault> {
-    let MapFiles {
-        mut nodes,
-        mut lines,
-        bans,
-    } = files;
-    let Some(mut bans) = bans else {
-        let mut no_bans = In::new(NO_BANS);
-        return run_batch(
-            alloc,
-            records,
-            &mut nodes,
-            &mut lines,
-            &mut no_bans,
-            input,
-            out,
-        );
-    };
     run_batch(
-        alloc, records, &mut nodes, &mut lines, &mut bans, input, out,
+        alloc,
+        records,
+        &mut files.nodes,
+        &mut files.lines,
+        &mut files.bans,
+        input,
+        out,
     )
 }
 

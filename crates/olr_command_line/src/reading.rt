@@ -1,7 +1,7 @@
 //! The map of files.
 
-use crate::opening::{Disk, MapFiles, NO_BANS, open_files};
-use olr_app::{Fault, In};
+use crate::opening::{Disk, open_files};
+use olr_app::Fault;
 use olr_map::read_map_with_bans;
 use olr_road::Map;
 use olr_words::Files;
@@ -15,16 +15,7 @@ use std::alloc::Global;
 /// [`Fault::OpenFailed`] with the first file that can't be opened; else the fault of the map, as
 /// [`read_map_with_bans`] answers it.
 pub fn read_map_of<D: Disk>(alloc: Global, files: &Files<'_>, disk: &mut D) -> Result<Map, Fault> {
-    let MapFiles {
-        mut nodes,
-        mut lines,
-        bans,
-    } = open_files(alloc, disk, files)?;
-    let Some(mut bans) = bans else {
-        let mut no_bans = In::new(NO_BANS);
-        let map = read_map_with_bans(alloc, &mut nodes, &mut lines, &mut no_bans)?;
-        return Ok(map);
-    };
-    let map = read_map_with_bans(alloc, &mut nodes, &mut lines, &mut bans)?;
+    let mut files = open_files(alloc, disk, files)?;
+    let map = read_map_with_bans(alloc, &mut files.nodes, &mut files.lines, &mut files.bans)?;
     Ok(map)
 }

@@ -3,9 +3,11 @@
 ghost use Rattle.std.specs.Prelude.{◌≡◌, ℕ, List, Option, IsErr, IsTrue};
 ghost use Rattle.std.specs.Io.{ReadsAtMost};
 ghost use Rattle.std.specs.Io.KnownBytes.{ReadConsumes};
+ghost use Rattle.either.specs.Either.{either};
 ghost use Rattle.olr_base.specs.Counting.{Counts};
 ghost use Rattle.olr_records.specs.In.{reader_of, failures_of};
 
+use either::Either;
 use olr_base::Failed;
 use std::io;
 use std::io::{ErrorKind, Read};
@@ -93,5 +95,26 @@ impl<R: Read> Source for In<R> {
 
     fn failures(&self) -> u64 {
         self.failures
+    }
+}
+
+/// One of two sources.
+impl<L: Source, R: Source> Source for Either<L, R> {
+    ghost left = { either L.left R.left };
+
+    ghost failed = { either L.failed R.failed };
+
+    fn pull(&mut self, buffer: &mut [u8]) -> Result<usize, Failed> {
+        match self {
+            Either::Left(source) => source.pull(buffer),
+            Either::Right(source) => source.pull(buffer),
+        }
+    }
+
+    fn failures(&self) -> u64 {
+        match self {
+            Either::Left(source) => source.failures(),
+            Either::Right(source) => source.failures(),
+        }
     }
 }

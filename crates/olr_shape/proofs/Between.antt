@@ -43,14 +43,14 @@ module _ (line : RoadLine) (from to : ℕ) where
       ∙ ap (λ (one : ℕ × Coordinates). found n ++ cond (is_between from to line one) (one ∷ []) [])
       at
 
-  kept : (n : ℕ) (point : Coordinates) → n < length line.points
+  pub kept : (n : ℕ) (point : Coordinates) → n < length line.points
       → get_or line.points n point ≡ point → is_between from to line (n, point) ≡ true
       → first_between (n + 1) ≡ first_between n ++ point ∷ []
   kept n point within is inside = ap (map point_of) (found_more n point within is
       ∙ ap (λ (b : Bool). found n ++ cond b ((n, point) ∷ []) []) inside)
       ∙ map_push point_of (found n) (n, point)
 
-  left_out : (n : ℕ) (point : Coordinates) → n < length line.points
+  pub left_out : (n : ℕ) (point : Coordinates) → n < length line.points
       → get_or line.points n point ≡ point → is_between from to line (n, point) ≡ false
       → first_between (n + 1) ≡ first_between n
   left_out n point within is outside = ap (map point_of) (found_more n point within is

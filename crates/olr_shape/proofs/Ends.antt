@@ -46,7 +46,7 @@ end_of_share p q whole some =
 
 module _ (laws : PlaneLaws) {nodes : ℕ} (line : RoadLine) (sound : IsSoundLine nodes line) where
   -- a segment has a length
-  long : (i : ℕ) → suc i < length line.points
+  pub long : (i : ℕ) → suc i < length line.points
       → 0 < arc_of_point line.points line.length (suc i) - arc_of_point line.points line.length i
   long i within =
       let rises = rise laws.distances (polyline_of line.points)
@@ -54,7 +54,7 @@ module _ (laws : PlaneLaws) {nodes : ℕ} (line : RoadLine) (sound : IsSoundLine
       (omega (arith, length-polyline_of line.points)) in
       omega (arith, mul-lt-mul_of_pos_right rises sound.long)
 
-  starts : (first : Coordinates) → slice_get line.points 0 ≡ Some first
+  pub starts : (first : Coordinates) → slice_get line.points 0 ≡ Some first
       → spot_at line.points line.length 0 ≡ Some first
   starts first first_is =
       let second = get_or line.points 1 first in
@@ -70,7 +70,7 @@ module _ (laws : PlaneLaws) {nodes : ℕ} (line : RoadLine) (sound : IsSoundLine
       ∙ ap Some (start_of_share first second whole (long 0 within)))
 
   -- only the last segment ends at the whole arc
-  before : (j : ℕ) → suc (suc j) < length line.points
+  pub before : (j : ℕ) → suc (suc j) < length line.points
       → arc_at (polyline_of line.points) (suc j) < arc (polyline_of line.points)
   before j within =
       let rises = rise laws.distances (polyline_of line.points)
@@ -78,12 +78,12 @@ module _ (laws : PlaneLaws) {nodes : ℕ} (line : RoadLine) (sound : IsSoundLine
       (omega (arith, length-polyline_of line.points)) in
       omega (arith, arc_within (polyline_of line.points) (suc (suc j)))
 
-  all : (i : ℕ) → suc (suc i) ≡ length line.points
+  pub all : (i : ℕ) → suc (suc i) ≡ length line.points
       → arc_at (polyline_of line.points) (suc i) ≡ arc (polyline_of line.points)
   all i count =
       arc_all (polyline_of line.points) (suc i) (omega (arith, length-polyline_of line.points))
 
-  ends : (last : Coordinates) (i : ℕ) → suc (suc i) ≡ length line.points
+  pub ends : (last : Coordinates) (i : ℕ) → suc (suc i) ≡ length line.points
       → slice_get line.points (suc i) ≡ Some last
       → spot_at line.points line.length line.length ≡ Some last
   ends last i count last_is =

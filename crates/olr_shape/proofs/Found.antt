@@ -50,7 +50,7 @@ segment_within (x ∷ rest) i within =
       refl,
     )
 
-arc_of_first : (spots : List Spot) → arc_at spots 0 ≡ 0
+pub arc_of_first : (spots : List Spot) → arc_at spots 0 ≡ 0
 arc_of_first [] = refl
 arc_of_first (x ∷ rest) = refl
 

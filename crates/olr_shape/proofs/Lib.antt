@@ -8,3 +8,4 @@ mod Between
 mod Deduped
 mod Neighbours
 mod Ends
+mod Whole

@@ -5,6 +5,7 @@ ghost use Rattle.std.specs.List.{dedup};
 ghost use Rattle.olr_base.specs.Coordinates.{coordinates_of};
 ghost use Rattle.olr_shape.specs.Shape.{coordinates_of_all, is_same, points_between, shape_on, spots_between, spots_of_piece, with_two_spots};
 
+use crate::laws::whole_lines_are_their_points;
 use crate::measured_line::{MeasuredLine, measured};
 use crate::position::spot_at;
 use olr_base::{Degrees, NoMemory};
@@ -63,19 +64,24 @@ fn push_spots(
 {
     push_spot(shape, spot_at(line, from))?;
     push_between(shape, line, from, to)?;
-    push_spot(shape, spot_at(line, to))?;
-    Ok(())
+    push_spot(shape, spot_at(line, to))
 }
 
-/// Appends the spots of a piece.
+/// Appends the spots of a piece. Those of a whole line are its points, so that none is computed.
 fn push_piece(shape: &mut Vec<Degrees>, map: &Map, piece: Piece) -> Result<(), NoMemory>
     ensures { OnOk result (coordinates_of_all shape.new.items
         ≡ coordinates_of_all shape.old.items ++ spots_of_piece map.now piece) }
 {
-    if piece.line < map.count() {
-        push_spots(shape, &measured(map, piece.line), piece.from, piece.to)?;
+    if piece.line >= map.count() {
+        return Ok(());
     }
-    Ok(())
+    let line = map.line(piece.line);
+    if piece.from == 0 && piece.to == line.length {
+        whole_lines_are_their_points();
+        shape.extend_from_slice(map.points(piece.line))?;
+        return Ok(());
+    }
+    push_spots(shape, &measured(map, piece.line), piece.from, piece.to)
 }
 
 /// The spots of pieces, one after the other.

@@ -13,5 +13,7 @@ mod Faults
 mod Requests
 mod OneGiven
 mod OneQuestion
+mod OneLines
+mod OneLegs
 mod OneRequest
 mod AskedAgain

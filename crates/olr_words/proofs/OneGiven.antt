@@ -1,6 +1,6 @@
 -- What words give is one, but for where its texts lie in memory.
 use mathlib.Core.Path.{fun_ext}
-use Rattle.std.proofs.Common.{◌≡◌, ◌∙◌, ap, sym, refl, arith, ℕ, Bor, false, List, [], Option, Some, None, cond, get_or}
+use Rattle.std.proofs.Common.{◌≡◌, ◌∙◌, ap, sym, subst, refl, arith, ℕ, Bor, false, List, [], Option, Some, None, cond, get_or}
 use Rattle.std.specs.Prelude.{codes, option_map, unwrap_or}
 use Rattle.std.specs.Bool.{one_answer}
 use Rattle.olr_request.specs.Request.{at_bytes, bytes_of}
@@ -18,7 +18,7 @@ use Rattle.olr_words.specs.Given.{AreEdgesOf, IsFormatNamed, IsNumberOf, IsOrder
 use Rattle.olr_words.specs.OneRequest.{placeless_cursor, placeless_pages}
 use Rattle.olr_words.specs.Options.{RecordOption}
 use Rattle.olr_words.specs.Profile.{profile_value}
-use Rattle.olr_words.specs.Record.{AreGivenBy}
+use Rattle.olr_words.specs.Record.{AreGivenBy, IsGivenBy}
 use Rattle.olr_words.specs.RecordWords.{Parts}
 use Rattle.olr_words.specs.Words.{pages_of, value_of}
 use Rattle.olr_words.specs.declared.profile.Profile.{Profile}
@@ -164,3 +164,12 @@ alike options its g h by other =
       one_page = by.one_page;
       one_page_too = other.one_page;
     }
+
+one_options : (its : Parts) (g h : Given) (p : IsGivenBy its g) (q : IsGivenBy its h)
+    → q.options ≡ p.options
+one_options its g h p q =
+    let same : Some q.options ≡ Some p.options = sym q.understood.named ∙ p.understood.named in cc
+
+pub one_given : (its : Parts) (g h : Given) → IsGivenBy its g → IsGivenBy its h → Alike g h
+one_given its g h p q = alike p.options its g h p.by
+    (subst (λ options. AreGivenBy options its h) (one_options its g h p q) q.by)

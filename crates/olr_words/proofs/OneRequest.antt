@@ -1,6 +1,6 @@
 -- A text asks for one thing.
 use Rattle.std.proofs.Common.{◌≡◌, ◌∙◌, ◌++◌, ◌≤◌, ap, sym, subst, refl, inl, inr, arith, ℕ, cond, List, length, take, drop, Option, Some, None}
-use Rattle.std.specs.Prelude.{IfSome, Result, Ok, Err, codes, ◌⊎◌, ◌≤ℤ◌, ℤ, Bool, true, false, unwrap_or}
+use Rattle.std.specs.Prelude.{IfSome, Result, Ok, Err, codes}
 use Rattle.std.specs.Str.{bytes_eq}
 use Rattle.std.proofs.lemmas.List.{append_cancel_left, drop_at, take_at}
 use Rattle.olr_candidates.specs.declared.tolerances.Tolerances.{Tolerances}
@@ -14,33 +14,24 @@ use Rattle.olr_request.specs.declared.request.Format.{Format}
 use Rattle.olr_request.specs.declared.request.Pages.{Pages}
 use Rattle.olr_request.specs.declared.request.Request.{Request}
 use Rattle.olr_request.specs.declared.request.Request.TheVariants.{Show}
-use Rattle.olr_words.specs.OneRequest.{AreEqual, StateTheSame, placeless, placeless_cursor, placeless_legs, placeless_pages, stated}
-use Rattle.olr_words.specs.Lines.{AreLines, AreLinesAsked, AreRefusedLines, IsForwards, IsLineCount, most_of}
-use Rattle.olr_candidates.specs.Tolerances.{IsFirstOutOfRange}
-use Rattle.olr_candidates.specs.declared.tolerances.Tolerance.{Tolerance}
+use Rattle.olr_words.specs.OneRequest.{AreEqual, StateTheSame, placeless, placeless_legs, placeless_pages, stated}
 use Rattle.olr_request.specs.declared.request.LegsRequest.{LegsRequest}
-use Rattle.olr_words.specs.Legs.{AreLegs, AreLegsAsked, AreRefusedLegs, IsNearShare, near_of}
-use Rattle.olr_words.specs.Record.{AreGivenBy, AskFor, AskForLegs, AskForLines, AskForNoLines, AskForNothing, IsGivenBy, IsOfSubcommand, IsQueryAbout, IsQueryOf, IsQueryOfWords, Subject, a_reference, its_legs, name_of, some_lines, subject_named}
-use Rattle.olr_words.specs.declared.box_text.Edges.{Edges}
-use Rattle.olr_words.specs.declared.words.GivenNumbers.{GivenNumbers}
-use Rattle.olr_lines.specs.LinesInBox.{HasEdges}
-use Rattle.olr_lines.specs.declared.geo_box.GeoBox.{GeoBox}
-use Rattle.olr_places.specs.declared.limits.PlaceLimit.TheVariants.{Most}
-use Rattle.olr_request.specs.declared.request.Extras.{Extras}
+use Rattle.olr_words.specs.Record.{AskFor, AskForLegs, AskForLines, AskForNoLines, AskForNothing, IsOfSubcommand, IsQueryAbout, IsQueryOf, IsQueryOfWords, Subject, a_reference, its_legs, name_of, some_lines, subject_named}
 use Rattle.olr_request.specs.declared.request.LinesRequest.{LinesRequest}
 use Rattle.olr_request.specs.declared.request.Query.{Query}
 use Rattle.olr_request.specs.declared.request.Query.TheVariants.{Legs, Lines, Reference}
-use Rattle.std.proofs.Props.{props}
 use Rattle.olr_words.specs.RecordWords.{ArePartsOf, IsAtDashes, Parts, at_spaces, dashes, parts}
-use Rattle.olr_words.specs.Words.{AreTolerances, IsNameOf, IsRequest, pages_of, value_of}
+use Rattle.olr_words.specs.Words.{IsNameOf, IsRequest, pages_of}
 use Rattle.olr_words.specs.declared.record.RecordFault.{RecordFault}
 use Rattle.olr_words.specs.declared.record.RecordFault.TheVariants as record_fault
 use Rattle.olr_words.specs.declared.words.Given.{Given}
 use Rattle.olr_words.specs.declared.words.MapSubcommand.{MapSubcommand}
 use Rattle.olr_words.specs.declared.words.MapSubcommand.TheVariants as each
 use Rattle.std.proofs.Common.{Bor}
-use Rattle.olr_words.proofs.OneGiven.{Alike, alike}
-use Rattle.olr_words.proofs.OneQuestion.{RefusedBy, asked_or_refused, first_tolerance, not_both, one_refused, one_tolerances, one_what, refused_by}
+use Rattle.olr_words.proofs.OneGiven.{Alike, alike, one_given}
+use Rattle.olr_words.proofs.OneQuestion.{RefusedBy, asked_or_refused, one_refused, one_tolerances, one_what, refused_by}
+use Rattle.olr_words.proofs.OneLegs.{legs_the_same}
+use Rattle.olr_words.proofs.OneLines.{asks_for_lines, lines_the_same}
 
 -- ---- the words
 
@@ -163,222 +154,11 @@ same_asked g h alike back name (Err why) (Err unlike) is other =
 
 -- ---- what words ask for
 
-one_options : (its : Parts) (g h : Given) (p : IsGivenBy its g) (q : IsGivenBy its h)
-    → q.options ≡ p.options
-one_options its g h p q =
-    let same : Some q.options ≡ Some p.options = sym q.understood.named ∙ p.understood.named in cc
-
-one_given : (its : Parts) (g h : Given) → IsGivenBy its g → IsGivenBy its h → Alike g h
-one_given its g h p q = alike p.options its g h p.by
-    (subst (λ options. AreGivenBy options its h) (one_options its g h p q) q.by)
-
 ask_the_same : (its : Parts) (r s : Result Request Fault) → AskFor its r → AskFor its s
     → SameAsked r s
 ask_the_same its r s p q = same_asked p.given q.given
     (one_given its p.given q.given p.given_by q.given_by)
     (one_given its q.given p.given q.given_by p.given_by) (name_of its.words) r s p.asks q.asks
-
--- ---- the lines of a map
-
-same_lines : (a b : LinesRequest) → a.within ≡ b.within → a.most ≡ b.most → a.shape ≡ b.shape
-    → a.format ≡ b.format → a ≡ b
-same_lines a b within most shape format =
-    λ k. record { within = within k; most = most k; shape = shape k; format = format k }
-
--- an edge, with the one that ends no farther back
-abbrev Span : Type 0
-Span = (from : ℤ) × (to : ℤ) × (from ≤ℤ to)
-
-same_span : (a b : Span) → a.0 ≡ b.0 → a.1 ≡ b.1 → a ≡ b
-same_span a b from to =
-    let one : (x y : ℤ) → IsProp (x ≤ℤ y) = λ x y. hlevel props in
-    let Same : ℤ → ℤ → Type 0 = λ x y. (is : x ≤ℤ y) → ◌≡◌ {A = Span} a (x, y, is) in
-    let here : Same a.0 a.1 =
-    λ is. ap (λ (known : a.0 ≤ℤ a.1). (a.0, a.1, known)) (one a.0 a.1 a.2 is) in
-    subst (λ x. Same x b.1) from (subst (λ y. Same a.0 y) to here) b.2
-
-box_of : Span → Span → GeoBox
-box_of across up = record {
-  west = across.0;
-  south = up.0;
-  east = across.1;
-  north = up.1;
-  eastwards = across.2;
-  northwards = up.2;
-}
-
-same_box : (a b : GeoBox) → a.west ≡ b.west → a.south ≡ b.south → a.east ≡ b.east
-    → a.north ≡ b.north → a ≡ b
-unfolding box_of
-same_box a b west south east north = λ k. box_of
-    (same_span (a.west, a.east, a.eastwards) (b.west, b.east, b.eastwards) west east k)
-    (same_span (a.south, a.north, a.northwards) (b.south, b.north, b.northwards) south north k)
-
-one_edges_given : (g h : Given) → Alike g h → (a b : Edges) → g.edges ≡ Some a → h.edges ≡ Some b
-    → a ≡ b
-one_edges_given g h alike a b is other =
-    let same : Some a ≡ Some b = sym is ∙ (alike.edges ∙ other) in cc
-
-one_within : (a b : Edges) (x y : GeoBox) → a ≡ b → HasEdges a.west a.south a.east a.north x
-    → HasEdges b.west b.south b.east b.north y → x ≡ y
-one_within a b x y same is other = same_box x y
-    (is.west_is ∙ (ap (λ (e : Edges). e.west) same ∙ sym other.west_is))
-    (is.south_is ∙ (ap (λ (e : Edges). e.south) same ∙ sym other.south_is))
-    (is.east_is ∙ (ap (λ (e : Edges). e.east) same ∙ sym other.east_is))
-    (is.north_is ∙ (ap (λ (e : Edges). e.north) same ∙ sym other.north_is))
-
-one_most : (g h : Given) → Alike g h → most_of g ≡ most_of h
-one_most g h alike = ap (λ (n : GivenNumbers). unwrap_or n.most 20000) alike.numbers
-
-one_lines : (g h : Given) → Alike g h → (a b : LinesRequest) → AreLinesAsked g a
-    → AreLinesAsked h b → a ≡ b
-one_lines g h alike a b is other = same_lines a b
-    (one_within is.within.edges other.within.edges a.within b.within
-    (one_edges_given g h alike is.within.edges other.within.edges is.within.given_edges
-    other.within.given_edges) is.within.has_edges other.within.has_edges)
-    (is.most ∙ (one_most g h alike ∙ sym other.most))
-    (is.shape ∙ (ap (λ (e : Extras). e.shape) alike.extras ∙ sym other.shape))
-    (is.format ∙ (alike.format ∙ sym other.format))
-
--- the box of lines that are asked for ends no farther back than it begins
-forwards : (edges : Edges) (within : GeoBox)
-    → HasEdges edges.west edges.south edges.east edges.north within → IsForwards edges
-forwards edges within has = (
-  subst (λ x. x ≤ℤ edges.east) has.west_is (subst (λ y. within.west ≤ℤ y) has.east_is within.eastwards),
-  subst (λ x. x ≤ℤ edges.north) has.south_is
-      (subst (λ y. within.south ≤ℤ y) has.north_is within.northwards),
-)
-
-lines_or_refused : (g h : Given) → Alike g h → (a : LinesRequest) (why : Fault) → AreLinesAsked g a
-    → AreRefusedLines h why → ⊥
-lines_or_refused g h alike a (fault.BadNumber Most) is refused =
-    refused (subst IsLineCount (one_most g h alike) is.in_range)
-lines_or_refused g h alike a fault.BadBox is refused =
-    refused.1 is.within.edges (sym alike.edges ∙ is.within.given_edges)
-    (forwards is.within.edges a.within is.within.has_edges)
-lines_or_refused g h alike a _ is refused = refused
-
--- why lines are refused: their number, or else the box
-refused_lines : (g : Given) (why : Fault) → AreRefusedLines g why
-    → ((why ≡ fault.BadNumber Most) × ¬ (IsLineCount (most_of g)))
-    ⊎ ((why ≡ fault.BadBox) × IsLineCount (most_of g))
-refused_lines g (fault.BadNumber Most) is = inl (refl, is)
-refused_lines g fault.BadBox is = inr (refl, is.0)
-refused_lines g _ is = absurd is
-
-one_refused_lines : (g h : Given) → Alike g h → (a b : Fault) → AreRefusedLines g a
-    → AreRefusedLines h b → a ≡ b
-one_refused_lines g h alike a b is other = elim (refused_lines g a is) [
-  | inl many ↦ elim (refused_lines h b other) [
-    | inl again ↦ many.0 ∙ sym again.0
-    | inr box ↦ absurd (many.1 (subst IsLineCount (sym (one_most g h alike)) box.1))
-  ]
-  | inr box ↦ elim (refused_lines h b other) [
-    | inl many ↦ absurd (many.1 (subst IsLineCount (one_most g h alike) box.1))
-    | inr again ↦ box.0 ∙ sym again.0
-  ]
-]
-
-same_result : (g h : Given) → Alike g h → Alike h g → (r s : Result LinesRequest Fault)
-    → AreLines g r → AreLines h s → r ≡ s
-same_result g h alike back (Ok a) (Ok b) is other = ap (λ (l : LinesRequest). Ok l) (one_lines g h alike a b is other)
-same_result g h alike back (Ok a) (Err why) is other =
-    absurd (lines_or_refused g h alike a why is other)
-same_result g h alike back (Err why) (Ok b) is other =
-    absurd (lines_or_refused h g back b why other is)
-same_result g h alike back (Err why) (Err unlike) is other =
-    ap (λ (w : Fault). Err w) (one_refused_lines g h alike why unlike is other)
-
-lines_the_same : (its : Parts) (r s : Result LinesRequest Fault) → AskForLines its r
-    → AskForLines its s → r ≡ s
-lines_the_same its r s p q =
-    let same : q.read_as ≡ p.read_as =
-    (let both : Some q.read_as ≡ Some p.read_as = sym q.are_read ∙ p.are_read in cc) in
-    let by : IsGivenBy p.read_as q.given = subst (λ it. IsGivenBy it q.given) same q.given_by in
-    same_result p.given q.given (one_given p.read_as p.given q.given p.given_by by)
-    (one_given p.read_as q.given p.given by p.given_by) r s p.asks q.asks
-
--- words that ask for lines don't ask for none
-asks_for_lines : (its : Parts) (r : Result LinesRequest Fault) → AskForLines its r
-    → AskForNoLines its → ⊥
-asks_for_lines its r p none =
-    none p.read_as p.are_read p.given_by.options p.given_by.understood
-
--- ---- the legs of a matching
-
-same_legs : (a b : LegsRequest) → a.text.now ≡ b.text.now → a.tolerances ≡ b.tolerances
-    → placeless_cursor a.at ≡ placeless_cursor b.at → a.near ≡ b.near → a.format ≡ b.format
-    → placeless_legs a ≡ placeless_legs b
-same_legs a b text tolerances at near format = λ k. record {
-  text = at_bytes (text k);
-  tolerances = tolerances k;
-  at = at k;
-  near = near k;
-  format = format k;
-}
-
-one_near : (g h : Given) → Alike g h → near_of g ≡ near_of h
-one_near g h alike = ap (λ (n : Option ℕ). unwrap_or n 1) alike.near
-
-one_legs : (g h : Given) → Alike g h → (a b : LegsRequest) → AreLegsAsked g a → AreLegsAsked h b
-    → placeless_legs a ≡ placeless_legs b
-one_legs g h alike a b is other = same_legs a b
-    (ap (λ (t : Bor (List ℕ)). t.now) is.text
-    ∙ (alike.text ∙ sym (ap (λ (t : Bor (List ℕ)). t.now) other.text)))
-    (one_tolerances g h alike a.tolerances b.tolerances is.tolerances other.tolerances)
-    (ap placeless_cursor is.at ∙ (alike.at ∙ sym (ap placeless_cursor other.at)))
-    (is.near ∙ (one_near g h alike ∙ sym other.near))
-    (is.format ∙ (alike.format ∙ sym other.format))
-
--- why legs are refused: a tolerance, or else the share
-refused_legs : (g : Given) (why : Fault) → AreRefusedLegs g why
-    → ((name : Tolerance) × (why ≡ fault.BadTolerance name) × IsFirstOutOfRange (value_of g) name)
-    ⊎ ((why ≡ fault.BadNear) × ((tolerances : Tolerances) × AreTolerances g tolerances)
-    × ¬ (IsNearShare (near_of g)))
-refused_legs g (fault.BadTolerance name) is = inl (name, refl, is)
-refused_legs g fault.BadNear is = inr (refl, is.0, is.1)
-refused_legs g _ is = absurd is
-
-legs_or_refused : (g h : Given) → Alike g h → (a : LegsRequest) (why : Fault) → AreLegsAsked g a
-    → AreRefusedLegs h why → ⊥
-legs_or_refused g h alike a why is refused = elim (refused_legs h why refused) [
-  | inl first ↦ not_both g h alike a.tolerances first.0 is.tolerances first.2
-  | inr share ↦ share.2 (subst IsNearShare (one_near g h alike) is.in_range)
-]
-
-one_refused_legs : (g h : Given) → Alike g h → Alike h g → (a b : Fault) → AreRefusedLegs g a
-    → AreRefusedLegs h b → a ≡ b
-one_refused_legs g h alike back a b is other = elim (refused_legs g a is) [
-  | inl first ↦ elim (refused_legs h b other) [
-    | inl again ↦ first.1 ∙ (ap (λ n. fault.BadTolerance n) (first_tolerance (value_of g) first.0 again.0
-        first.2 (subst (λ v. IsFirstOutOfRange v again.0) (sym alike.values) again.2)) ∙ sym again.1)
-    | inr share ↦ absurd (not_both h g back share.1.0 first.0 share.1.1 first.2)
-  ]
-  | inr share ↦ elim (refused_legs h b other) [
-    | inl again ↦ absurd (not_both g h alike share.1.0 again.0 share.1.1 again.2)
-    | inr again ↦ share.0 ∙ sym again.0
-  ]
-]
-
-abbrev SameLegs : Result LegsRequest Fault → Result LegsRequest Fault → Type 0
-SameLegs (Ok a) (Ok b) = placeless_legs a ≡ placeless_legs b
-SameLegs (Ok a) (Err why) = ⊥
-SameLegs (Err why) (Ok b) = ⊥
-SameLegs (Err why) (Err other) = why ≡ other
-
-same_legs_asked : (g h : Given) → Alike g h → Alike h g → (r s : Result LegsRequest Fault)
-    → AreLegs g r → AreLegs h s → SameLegs r s
-same_legs_asked g h alike back (Ok a) (Ok b) is other = one_legs g h alike a b is other
-same_legs_asked g h alike back (Ok a) (Err why) is other = legs_or_refused g h alike a why is other
-same_legs_asked g h alike back (Err why) (Ok b) is other = legs_or_refused h g back b why other is
-same_legs_asked g h alike back (Err why) (Err unlike) is other =
-    one_refused_legs g h alike back why unlike is other
-
-legs_the_same : (its : Parts) (r s : Result LegsRequest Fault) → AskForLegs its r
-    → AskForLegs its s → SameLegs r s
-legs_the_same its r s p q = same_legs_asked p.given q.given
-    (one_given its p.given q.given p.given_by q.given_by)
-    (one_given its q.given p.given q.given_by p.given_by) r s p.asks q.asks
 
 -- ---- what is stated of words
 
