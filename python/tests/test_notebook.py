@@ -16,7 +16,7 @@ from xml.etree import ElementTree
 
 import olr
 from conftest import OF_PROGRAM, TOP, Program
-from olr.client.map_client import opened
+from olr.client.given_map import opened
 from olr.matching.columns import ANSWERS
 from olr.matching.kept_columns import kept_columns
 from olr.model.answers import about

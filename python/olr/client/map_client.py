@@ -1,7 +1,6 @@
 """A map that can be asked: `olr.Map`."""
 
 from collections.abc import Callable, Iterable, Iterator, Mapping, Sequence
-from contextlib import AbstractContextManager, nullcontext
 from functools import partial
 from pathlib import Path
 from typing import TYPE_CHECKING, Any, Literal, NoReturn, cast, overload
@@ -487,17 +486,6 @@ class Map(Answering):
         while found.next is not None:
             found = self.match(ref, page=page, after=found.next)
             yield found
-
-
-MapOrPath = Map | PathLike
-"""A map as it is given to a call: as `Map`, or as the path of a folder or a store, of which `Map` is asked."""
-
-
-def opened(given: MapOrPath) -> AbstractContextManager[Map]:
-    """The map that was given, while it is asked. One that is made here, of a path, is closed behind."""
-    if isinstance(given, Map):
-        return nullcontext(given)
-    return Map.of_folder(given)
 
 
 def _store_source(store: Path, made: Callable[[MapFiles], FilesSource]) -> "StoreSource":

@@ -4,7 +4,7 @@ from collections.abc import Hashable, Iterable, Iterator
 from contextlib import closing
 from typing import Any
 
-from olr.client.map_client import MapOrPath, opened
+from olr.client.given_map import MapOrPath, opened
 from olr.extras import needed_by
 from olr.messages.message import Base64
 from olr.messages.texts import plain_base64, require_base64

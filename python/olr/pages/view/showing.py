@@ -5,7 +5,7 @@ from pathlib import Path
 
 from olr.asking.files import MapFiles
 from olr.asking.program import PathLike
-from olr.client.map_client import MapOrPath, opened
+from olr.client.given_map import MapOrPath, opened
 from olr.extras import needed_by
 from olr.model.answers import AboutReference
 from olr.model.asked_with import all_of_question, name_for_program
