@@ -2,7 +2,7 @@
 use Rattle.std.proofs.Common.{◌≡◌, ◌∙◌, ℕ, zero, suc, ◌+◌, ◌-◌, ◌<◌, ap, arith, refl, sym, Bool, true, false, List, [], ◌∷◌, ◌++◌, length, get_or, map, take, Some, add-one}
 use Rattle.std.proofs.Math.Nat.{mul-lt-mul_of_pos_right}
 use Rattle.std.proofs.lemmas.Bool.{le-ltb, lt-ltb}
-use Rattle.std.proofs.lemmas.List.{append-nil, append_assoc, map-append, take_all, take_more}
+use Rattle.std.proofs.lemmas.List.{append-nil, map-append, take_all, take_more}
 use Rattle.std.proofs.lemmas.Option.{get_or_from_slice_get, slice_get-get_or}
 use Rattle.std.specs.Prelude.{◌&&◌, nat_lt, option_map, slice_get}
 use Rattle.olr_base.specs.Coordinates.{Coordinates, coordinates_of}
@@ -10,7 +10,7 @@ use Rattle.olr_base.specs.declared.degrees.Degrees.{Degrees}
 use Rattle.olr_road.specs.RoadMap.{IsSoundLine, IsSoundMap, RoadLine, RoadMap, head_of}
 use Rattle.olr_road.specs.declared.line.Line.{Line}
 use Rattle.olr_route.specs.declared.piece.Piece.{Piece}
-use Rattle.olr_shape.specs.Laws.{PlaneLaws, WholeLinesAreTheirPoints}
+use Rattle.olr_shape.specs.Laws.{PlaneLaws}
 use Rattle.olr_shape.specs.Position.{arc_of_point, arc_of_position, polyline_of}
 use Rattle.olr_shape.specs.Shape.{coordinates_of_all, is_between, points_between, spots_between, spots_of_piece}
 use Rattle.olr_shape.proofs.Between.{all_between, first_between, kept, left_out}
@@ -112,8 +112,10 @@ module _ (laws : PlaneLaws) {nodes : ℕ} (line : RoadLine) (sound : IsSoundLine
         ∙ (ap (λ (l : List Coordinates). l ++ point (suc i) ∷ []) (so_far i here)
         ∙ (sym (one_more (suc i) here) ∙ take_all (suc (suc i)) line.points (omega arith))))
 
-pub whole_lines : PlaneLaws → WholeLinesAreTheirPoints
-whole_lines laws road rank line sound line_is =
+whole_line_is_its_points : PlaneLaws → (road : RoadMap) (rank : ℕ) (line : RoadLine)
+    → IsSoundMap road → slice_get road.lines rank ≡ Some line
+    → spots_of_piece road (record { line = rank; from = 0; to = line.length }) ≡ line.points
+whole_line_is_its_points laws road rank line sound line_is =
     let its = sound_at road.lines rank sound.lines.each line_is in
     let first = line_at line.points 0 (omega (arith, its.points_at_least)) in
     rw line_is (append-nil (spots_between 0 line.length line)
@@ -121,14 +123,14 @@ whole_lines laws road rank line sound line_is =
 
 -- ---- as the code appends them
 
-pub appended : WholeLinesAreTheirPoints → (road : RoadMap) (piece : Piece) (head : Line)
+pub appended : PlaneLaws → (road : RoadMap) (piece : Piece) (head : Line)
     (points old new : List Degrees) → IsSoundMap road → piece.line < length road.lines
     → piece.from ≡ 0 → piece.to ≡ head.length
     → option_map head_of (slice_get road.lines piece.line) ≡ Some head
     → option_map (λ l. l.points) (slice_get road.lines piece.line)
     ≡ Some (map coordinates_of points) → new ≡ old ++ points
     → coordinates_of_all new ≡ coordinates_of_all old ++ spots_of_piece road piece
-appended law road piece head points old new sound within start end head_is points_are new_is =
+appended laws road piece head points old new sound within start end head_is points_are new_is =
     let at = line_at road.lines piece.line within in
     let line = at.0 in
     let same = whole_line road.lines piece.line line head (map coordinates_of points) at.1 head_is
@@ -136,6 +138,6 @@ appended law road piece head points old new sound within start end head_is point
     let to : piece.to ≡ line.length = end ∙ sym (ap (λ (l : RoadLine). l.length) same) in
     let spots : spots_of_piece road piece ≡ map coordinates_of points =
     (λ k. spots_of_piece road (record { line = piece.line; from = start k; to = to k }))
-    ∙ (law road piece.line line sound at.1 ∙ ap (λ (l : RoadLine). l.points) same) in
+    ∙ (whole_line_is_its_points laws road piece.line line sound at.1 ∙ ap (λ (l : RoadLine). l.points) same) in
     ap (map coordinates_of) new_is ∙ (map-append coordinates_of old points
     ∙ ap (λ (l : List Coordinates). map coordinates_of old ++ l) (sym spots))

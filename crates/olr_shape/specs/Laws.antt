@@ -9,7 +9,6 @@ use Rattle.olr_road.specs.Place.{IsPlace}
 use Rattle.olr_road.specs.RoadMap.{IsSoundMap, RoadLine, RoadMap}
 use Rattle.olr_road.specs.declared.place.Place.{Place}
 use Rattle.olr_shape.specs.Position.{spot_on}
-use Rattle.olr_shape.specs.Shape.{spots_of_piece}
 
 -- each place on a map has a spot
 abbrev pub PlacesHaveSpots : Type 0
@@ -28,12 +27,6 @@ EndsAtLastPoint = (road : RoadMap) (rank : ℕ) (line : RoadLine) → IsSoundMap
     → slice_get road.lines rank ≡ Some line
     → spot_on road (record { line = rank; at = line.length })
     ≡ slice_get line.points (length line.points - 1)
-
--- the spots of a whole line are its points
-abbrev pub WholeLinesAreTheirPoints : Type 0
-WholeLinesAreTheirPoints = (road : RoadMap) (rank : ℕ) (line : RoadLine) → IsSoundMap road
-    → slice_get road.lines rank ≡ Some line
-    → spots_of_piece road (record { line = rank; from = 0; to = line.length }) ≡ line.points
 
 -- ---- what these rest on
 

@@ -1,12 +1,11 @@
 //! Laws of spots. Each is the contract of a function that does nothing at run time.
 
 ghost use Rattle.olr_shape.specs.Laws.{EndsAtLastPoint, PlacesHaveSpots, PlaneLaws, StartsAtFirstPoint};
-ghost use Rattle.olr_shape.specs.Laws.{WholeLinesAreTheirPoints};
 
 use olr_metric::{distances, one_place_a_spot};
 
 /// The laws that these rest on.
-fn laws_of_the_plane()
+pub(crate) fn laws_of_the_plane()
     ensures { PlaneLaws }
 {
     one_place_a_spot();
@@ -24,13 +23,6 @@ pub fn places_have_spots()
 pub fn spots_of_ends()
     ensures first { StartsAtFirstPoint }
     ensures last { EndsAtLastPoint }
-{
-    laws_of_the_plane();
-}
-
-/// The spots of a whole line are its points.
-pub fn whole_lines_are_their_points()
-    ensures { WholeLinesAreTheirPoints }
 {
     laws_of_the_plane();
 }

@@ -8,7 +8,7 @@
 //! - [`shape`]: the spots of pieces, joined.
 //!
 //! Beside them, [`laws`] states that each place on a map has a spot, and what the spots at the ends
-//! of a line and of a whole line are.
+//! of a line are.
 #![tactic(auto)]
 
 mod laws;
@@ -17,6 +17,6 @@ mod position;
 mod shape;
 mod share;
 
-pub use laws::{places_have_spots, spots_of_ends, whole_lines_are_their_points};
+pub use laws::{places_have_spots, spots_of_ends};
 pub use position::spot_on;
 pub use shape::shape_on;

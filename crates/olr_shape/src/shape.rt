@@ -5,7 +5,7 @@ ghost use Rattle.std.specs.List.{dedup};
 ghost use Rattle.olr_base.specs.Coordinates.{coordinates_of};
 ghost use Rattle.olr_shape.specs.Shape.{coordinates_of_all, is_same, points_between, shape_on, spots_between, spots_of_piece, with_two_spots};
 
-use crate::laws::whole_lines_are_their_points;
+use crate::laws::laws_of_the_plane;
 use crate::measured_line::{MeasuredLine, measured};
 use crate::position::spot_at;
 use olr_base::{Degrees, NoMemory};
@@ -77,7 +77,7 @@ fn push_piece(shape: &mut Vec<Degrees>, map: &Map, piece: Piece) -> Result<(), N
     }
     let line = map.line(piece.line);
     if piece.from == 0 && piece.to == line.length {
-        whole_lines_are_their_points();
+        laws_of_the_plane();
         shape.extend_from_slice(map.points(piece.line))?;
         return Ok(());
     }

@@ -10,7 +10,7 @@ returns-then-piece-count c =
     rw none (sym (append-nil _))
 
 pub returns-then-piece-line : goal.returns-then-piece-line
-returns-then-piece-line c = appended c.whole_lines_are_their_points.ensures c.args.map.now
+returns-then-piece-line c = appended c.laws_of_the_plane.ensures c.args.map.now
     c.args.piece c.line-line.result c.points.result.now _ _ c.points.ensures.sound
     (omega arith) c.if-piece-eq0.true c.if-piece-line.true c.line-line.ensures.line
     c.points.ensures.points c.in_ok-extend_from_slice.ensures.items
