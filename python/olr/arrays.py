@@ -29,3 +29,11 @@ def with_ends(inner: Integers, counts: Integers, ends: Integers) -> Integers:
     places = np.stack([behind - counts, behind], axis=1).ravel()
     result: Integers = np.insert(inner, places, ends, axis=0)
     return result
+
+
+def sums_of(numbers: Integers, counts: Integers) -> Integers:
+    """The sums of as many numbers as each count says, one behind the other."""
+    sums = np.insert(np.cumsum(numbers), 0, 0)
+    behind = np.cumsum(counts)
+    result: Integers = sums[behind] - sums[behind - counts]
+    return result

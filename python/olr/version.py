@@ -1,7 +1,6 @@
 """The version of this package: in a repository that of its CHANGELOG.md, else the one with which the package was installed."""
 
 import re
-from importlib import metadata
 from pathlib import Path
 from typing import NamedTuple
 
@@ -51,6 +50,9 @@ def version(top: Path = TOP) -> str:
 
 def _installed() -> str:
     """The version with which the package was installed."""
+    # It takes a tenth of the time in which a command starts.
+    from importlib import metadata
+
     try:
         return metadata.version("olr")
     except metadata.PackageNotFoundError:

@@ -19,6 +19,7 @@ import olr
 from asking import draw_map, draw_references
 from conftest import OF_PROGRAM, REFERENCE, TOP, Program
 from exact_paths import LineGraph, drawn_references
+from olr.asking.exchange import Asked
 from olr.errors import ToolError
 from olr.matching.columns import ANSWERS
 from olr.matching.writing import Output, writing_rows
@@ -84,13 +85,14 @@ def test_pieces_in_each_kind_of_file(tmp_path: Path, capsys: pytest.CaptureFixtu
 def test_what_rows_are_made_of(tmp_path: Path, monkeypatch: pytest.MonkeyPatch) -> None:
     """Of answers, with coordinates where there is room for them, and of nothing else of the map."""
     asked: list[bool] = []
-    answers = olr.Map.answers
+    answers = olr.Map._answers
 
-    def noted(town: olr.Map, what: Any, refs: Any, **settings: Any) -> Any:
-        asked.append(settings.get("shape", False))
-        return answers(town, what, refs, **settings)
+    def noted(town: olr.Map, question: Asked, *others: Any) -> Any:
+        asked.append("geojson" in question.words)
+        assert "--shape" not in question.words
+        return answers(town, question, *others)
 
-    monkeypatch.setattr(olr.Map, "answers", noted)
+    monkeypatch.setattr(olr.Map, "_answers", noted)
     monkeypatch.setattr(olr.Map, "network", None)
     ways: list[tuple[str, ...]] = [("csv",), ("csv", "--places"), ("gpkg",), ("geojson",)]
     for kind, *words in ways:

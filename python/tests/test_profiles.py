@@ -13,6 +13,7 @@ import olr
 from asking import batch_of
 from conftest import REFERENCE, TOP, Program
 from feeds import data_of
+from olr.asking.exchange import Asked
 from olr.client.map_client import Map
 from olr.matching.lacking import Lacking
 from olr.model.asked_with import command_text, numbers_text
@@ -274,13 +275,13 @@ def test_nothing_more_is_asked_where_all_fit(
     capsys: pytest.CaptureFixture[str],
 ) -> None:
     asked: list[str] = []
-    answers = Map.answers
+    answers = Map._answers
 
-    def noted(self: Map, what: Any, *given: Any, **numbers: Any) -> Any:
-        asked.append(what)
-        return answers(self, what, *given, **numbers)
+    def noted(self: Map, question: Asked, *others: Any) -> Any:
+        asked.append(question.what)
+        return answers(self, question, *others)
 
-    monkeypatch.setattr(Map, "answers", noted)
+    monkeypatch.setattr(Map, "_answers", noted)
     messages = tmp_path / "messages"
     messages.write_text(f"m1\t{REFERENCE}\nm2\tbad\n")
     out = tmp_path / "out.csv"

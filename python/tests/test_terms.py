@@ -71,7 +71,7 @@ def test_terms_by_hand() -> None:
     assert (terms.costs.tolist(), terms.lines.tolist()) == ([4150], [3])
     assert terms.turns_back.tolist() == [False]
     assert terms.from_end.tolist() == [20, 80, 30]
-    assert ends_of(one.places[0].matching) == 100
+    assert ends_of([one.places[0].matching]) == [100]
     assert (terms.distance.tolist(), terms.sectors.tolist()) == ([40, 0, 0], [2, 0, 0])
     assert (terms.classes.tolist(), terms.other_form.tolist()) == ([0, 1, 0], [False, True, False])
     told = 3 * INTERVAL

@@ -6,6 +6,7 @@ import threading
 from collections import deque
 from collections.abc import Sequence
 from contextlib import suppress
+from fcntl import F_SETPIPE_SZ, fcntl
 from pathlib import Path
 from queue import SimpleQueue
 from typing import IO, NoReturn
@@ -103,6 +104,10 @@ class Process:
         pipes = {"stdin": pipe, "stdout": pipe, "stderr": pipe}
         with start(self._program, words, pass_fds=self._files.descriptors, **pipes) as process:
             self._process = process
+            assert process.stdout is not None
+            with suppress(OSError):
+                # The program goes on while Python is at something else: usually a pipe holds 64 KiB.
+                fcntl(process.stdout.fileno(), F_SETPIPE_SZ, PIECE_BYTES)
             writer = threading.Thread(target=self._write, args=(process.stdin,), daemon=True)
             try:
                 writer.start()

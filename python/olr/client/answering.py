@@ -1,6 +1,6 @@
 """How the questions to a map are put in the program's words, and its lines become answers."""
 
-from collections.abc import Iterator, Mapping, Sequence
+from collections.abc import Callable, Iterable, Iterator, Mapping, Sequence
 from contextlib import closing
 from itertools import tee
 from pathlib import Path
@@ -14,7 +14,7 @@ from olr.model.answers import Answer, AnswerOrFault, about
 from olr.model.box import Box
 from olr.model.fault import Fault
 from olr.model.legs_and_lines import Legs, Lines
-from olr.model.objects import RawLine, read_any
+from olr.model.objects import RawLine, number_of_candidates, read_any, read_drawn
 from olr.model.questions import (
     MOST_LINES,
     NEAR,
@@ -30,6 +30,9 @@ from olr.model.questions import (
 
 if TYPE_CHECKING:
     from olr.client.store_source import StoreSource
+
+Read = Callable[[Any, bytes, str | None], Any]
+"""Makes an answer of what it is to, its text and the digest of the map. Raises `ValueError`."""
 
 
 class Answering:
@@ -78,13 +81,16 @@ class Answering:
         answer: Lines = self._read("lines", line)
         return answer
 
-    def _answers(self, asked: Asked, refs: Iterator[str]) -> Iterator[AnswerOrFault]:
+    def _answers(
+        self, asked: Asked, refs: Iterator[str], read: Read = read_any
+    ) -> Iterator[AnswerOrFault]:
         """The answers about references, in their order. Raises `ToolError`."""
         refs, again = tee(refs)
         with closing(self._source.about(asked, refs)) as lines:
             for number, (found, ref) in enumerate(zip(lines, again), 1):
                 line = self._there(found, ref, number)
-                yield self._read(asked.what, line, ref) if line.fault is None else Fault(line.fault)
+                fault = None if line.fault is None else Fault(line.fault)
+                yield fault or self._read(asked.what, line, ref, read)
 
     def _there(self, line: Line, ref: str, number: int | None = None) -> RawLine:
         """A line. Raises `TimedOut` in place of that, with the reference, which has this number among many."""
@@ -98,10 +104,10 @@ class Answering:
             number,
         ) from line
 
-    def _read(self, what: str, line: RawLine, ref: str = "") -> Any:
+    def _read(self, what: str, line: RawLine, ref: str = "", read: Read = read_any) -> Any:
         """The answer of a line. Raises `ProgramEnded` if it is none."""
         try:
-            found = read_any(what, line.answer, self._source.digest())
+            found = read(what, line.answer, self._source.digest())
         except ValueError as error:
             raise no_answer(self._program or "olr", error) from error
         return about(found, ref, self._asked_with)
@@ -112,6 +118,22 @@ def _answered(line: RawLine) -> RawLine:
     if line.fault is not None:
         raise Fault(line.fault)
     return line
+
+
+def drawn_answers(
+    asked: Answering, what: What, refs: Iterable[str], part: str, settings: Mapping[str, Setting]
+) -> Iterator[AnswerOrFault]:
+    """As `Map.answers`, of `match` or `places`: each matching has the `geometry` of this part of it, and no `shape`, of which the program would
+    print three parts."""
+    words = (*asked._asked(what, settings).words, "--format", "geojson", "--part", part)
+    return asked._answers(Asked(what, words), iter(refs), read_drawn)
+
+
+def candidates_counted(asked: Answering, refs: Iterable[str]) -> Iterator[int | None]:
+    """How many candidates all points of each reference have together; None where there is a fault. Raises as `Map.answers`."""
+    words = asked._asked("candidates", {})
+    found = asked._answers(words, iter(refs), lambda _, answer, __: number_of_candidates(answer))
+    return (one if isinstance(one, int) else None for one in found)
 
 
 def drawn_legs(asked: Answering, ref: str, at: str) -> bytes:

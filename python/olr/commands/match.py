@@ -111,10 +111,16 @@ def command(
                 second = written[1] if len(written) > 1 else None
                 settings: Mapping[str, Setting] = asking.numbers
                 settings = listing(settings) if places else settings
-                settings = {**settings, "shape": has_geometries(out)}
                 network = asked.network() if pieces and has_geometries(pieces) else None
                 messages.write_answers(
-                    question, settings, part, sure.judging, written[0], second, network
+                    question,
+                    settings,
+                    part,
+                    sure.judging,
+                    written[0],
+                    second,
+                    network,
+                    with_geometries=has_geometries(out),
                 )
         nowhere = lacking.line()
     references = sum(messages.outcomes.values())

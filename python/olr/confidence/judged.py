@@ -1,6 +1,7 @@
 """Answers to `places` with their places in the likely order, and how probable each of them is."""
 
 from collections.abc import Sequence
+from itertools import islice
 from typing import NamedTuple
 
 from olr.confidence.confidence import Confidence
@@ -57,8 +58,9 @@ class Judging(NamedTuple):
 
 
 class _Told(NamedTuple):
-    """What a confidence says of an answer."""
+    """What its points say of an answer, and what a confidence says."""
 
+    ends: Sequence[float | None]
     of_places: Sequence[float | None]
     reasons: Sequence[str]
     of_none: float | None
@@ -97,7 +99,7 @@ def _place(answer: Places, likely: int, number: int, told: _Told) -> JudgedPlace
         place=one,
         rank=one.rank or number + 1,
         likely=None if one.rank is None else likely,
-        ends=ends_of(one.matching),
+        ends=told.ends[number],
         turns_back=one.matching.turns_back,
         probability=told.of_places[number],
         reasons=told.reasons[number],
@@ -105,9 +107,10 @@ def _place(answer: Places, likely: int, number: int, told: _Told) -> JudgedPlace
 
 
 def _told(answers: Sequence[Places | None], confidence: Confidence | None) -> list[_Told]:
-    """What a confidence says of answers. Nothing is said of points along a line: no trial is of one."""
+    """What is said of answers. By a confidence nothing is of points along a line: no trial is of one."""
+    ends = iter(ends_of([one.matching for answer in answers if answer for one in answer]))
     sizes = [0 if one is None else len(one) for one in answers]
-    told = [_Told([None] * size, [""] * size, None) for size in sizes]
+    told = [_Told(list(islice(ends, it)), [None] * it, [""] * it, None) for it in sizes]
     if confidence is None:
         return told
     lines = [one if one and _is_of_line(one) else None for one in answers]
@@ -119,7 +122,8 @@ def _told(answers: Sequence[Places | None], confidence: Confidence | None) -> li
     for number, one in enumerate(lines):
         if one is not None:
             here = slice(end, end := end + len(one))
-            told[number] = _Told(of_place[here].tolist(), reasons[here], next(of_answers))
+            of_places = of_place[here].tolist()
+            told[number] = _Told(told[number].ends, of_places, reasons[here], next(of_answers))
     return told
 
 

@@ -4,14 +4,16 @@ import numpy as np
 from collections.abc import Sequence
 from typing import NamedTuple
 
-from olr.arrays import Booleans, Floats, Integers
-from olr.geometry.parts import parts_of
-from olr.model.answers import Candidate, Leg, Matching, Places
+from olr.arrays import Booleans, Floats, Integers, sums_of
+from olr.geometry.parts import members_of, parts_of
+from olr.model.answers import Matching, Places
 
 MOST_END = 500
 """Decimetres that a point lies from the proper end of its line at most, as it is counted: farther away is no worse."""
 INTERVAL = 58.6
 """Metres in an interval of a reference."""
+OF_POINT = ("end", "distance", "sectors", "classes", "parts.form")
+"""What is taken of each point. One costs something for its form exactly where its line has another one."""
 
 
 class Terms(NamedTuple):
@@ -74,14 +76,14 @@ class Terms(NamedTuple):
 def terms_of(answers: Sequence[Places | None]) -> Terms:
     """Those of answers in the likely order and in detail; None has no places."""
     found = [one.matching for answer in answers if answer for one in answer.places]
-    points = _columns([_of_point(it) for one in found for it in one.points], 5)
-    legs = _columns([_of_leg(it) for one in found for it in one.legs], 2)
+    points, counts = members_of([one.points for one in found], OF_POINT)
+    legs, _ = members_of([one.legs for one in found], ("greatest", "length"))
     return Terms(
         sizes=np.array([len(one.places) if one else 0 for one in answers], dtype=np.int64),
         costs=np.array([one.cost for one in found], dtype=np.int64),
         turns_back=np.array([one.turns_back for one in found], dtype=np.bool_),
         lines=parts_of([one.route for one in found]).counts,
-        counts=np.array([len(one.points) for one in found], dtype=np.int64),
+        counts=counts,
         from_end=points[0] / 10,
         distance=points[1] / 100,
         sectors=points[2],
@@ -92,26 +94,11 @@ def terms_of(answers: Sequence[Places | None]) -> Terms:
     )
 
 
-def ends_of(matching: Matching) -> float | None:
-    """How far its points lie from the proper ends of their lines together, in metres, `MOST_END` at most of each. None without detail."""
-    ends = [min(one.end, MOST_END) for one in matching.points if one.end is not None]
-    return sum(ends) / 10 if len(ends) == len(matching.points) else None
-
-
-def _of_point(one: Candidate) -> tuple[int | None, ...]:
-    """What each point has. One costs something for its form exactly where its line has another one."""
-    form = None if one.parts is None else one.parts.form
-    return one.end, one.distance, one.sectors, one.classes, form
-
-
-def _of_leg(one: Leg) -> tuple[int | None, ...]:
-    return one.greatest, one.length
-
-
-def _columns(rows: Sequence[Sequence[int | None]], width: int) -> Integers:
-    """Rows as columns."""
-    result: Integers = np.array(rows, dtype=np.int64).reshape(-1, width).T
-    return result
+def ends_of(matchings: Sequence[Matching]) -> list[float | None]:
+    """How far the points of each lie from the proper ends of their lines together, in metres, `MOST_END` at most of each. None without detail."""
+    (ends,), counts = members_of([one.points for one in matchings if one.cost is not None], ["end"])
+    sums = iter((sums_of(np.minimum(ends, MOST_END), counts) / 10).tolist())
+    return [None if one.cost is None else next(sums) for one in matchings]
 
 
 def _sums_of(values: Floats | Integers, counts: Integers) -> Floats:

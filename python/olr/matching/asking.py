@@ -8,6 +8,7 @@ from collections.abc import Iterator, Mapping
 from itertools import islice, tee
 from typing import TYPE_CHECKING
 
+from olr.client.answering import candidates_counted, drawn_answers
 from olr.client.map_client import Map
 from olr.confidence.judged import Judging
 from olr.confidence.shown import listed_within
@@ -63,12 +64,14 @@ class Asked:
         rows: Sink,
         pieces: Sink | None,
         network: "Network | None",
+        with_geometries: bool,
     ) -> None:
-        """Asks where the references are, and writes rows of the answers, judged, and of their pieces, which have geometries if there is a
-        network. Raises `ToolError`."""
+        """Asks where the references are, and writes rows of the answers, judged, with or without geometries, and of their pieces, which have some
+        if there is a network. Raises `ToolError`."""
         messages, again = tee(self._messages)
-        counted = self._map.answers("candidates", (message.reference for message in again))
-        both = zip(self._answered(messages, question, settings), counted, strict=True)
+        counted = candidates_counted(self._map, (message.reference for message in again))
+        drawn = part if with_geometries else None
+        both = zip(self._answered(messages, question, settings, drawn), counted, strict=True)
         answered = (Answered(message, answer, count) for (message, answer), count in both)
         for chunk in chunks_of(answered, self._map, judging):
             self.cut_off += chunk.cut_off()
@@ -98,12 +101,21 @@ class Asked:
             yield f"{outcome}: {number:,}"
 
     def _answered(
-        self, messages: Iterator[Message], question: What, settings: Mapping[str, Setting]
+        self,
+        messages: Iterator[Message],
+        question: What,
+        settings: Mapping[str, Setting],
+        drawn: Extent | None = None,
     ) -> Iterator[tuple[Message, AnswerOrFault]]:
-        """Messages with their answers, counted by their outcome, while it is shown how far they are."""
+        """Messages with their answers, counted by their outcome, while it is shown how far they are. Their matchings have the geometry of the part
+        that is to be drawn."""
         messages, again = tee(messages)
         texts = (message.reference for message in again)
-        answers = self._map.answers(question, texts, **settings)
+        answers = (
+            self._map.answers(question, texts, **settings)
+            if drawn is None
+            else drawn_answers(self._map, question, texts, drawn, settings)
+        )
         with progress("matching", self._total) as advance:
             for message, found in zip(messages, answers, strict=True):
                 answer = message.answer(found)

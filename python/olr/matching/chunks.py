@@ -15,8 +15,8 @@ if TYPE_CHECKING:
     from olr.geometry.network import Network
 
 Item = TypeVar("Item")
-Counted = Candidates | Fault | None
-"""An answer to `candidates`; None where nobody asked."""
+Counted = Candidates | Fault | int | None
+"""An answer to `candidates`, or how many it has; None where nobody asked."""
 ROWS = 500
 """So many rows are made at once, or some more: those of one answer stay together."""
 
@@ -97,4 +97,6 @@ def _count(answer: Located) -> int:
 
 def _number_of(counted: Counted) -> int | None:
     """How many candidates all points of a reference have together."""
-    return sum(map(len, counted.points)) if isinstance(counted, Candidates) else None
+    if isinstance(counted, Candidates):
+        return sum(map(len, counted.points))
+    return counted if isinstance(counted, int) else None

@@ -51,11 +51,6 @@ def rounded(number: float | None, digits: int = DIGITS) -> float | None:
     return None if number is None else round(number, digits)
 
 
-def penalty_of_legs(matching: Matching) -> int:
-    """The penalty points of the paths of a matching. The others of its total are those of its points, which needn't be read."""
-    return sum(leg.penalty for leg in matching.legs)
-
-
 def whole(fact: bool | None) -> int | None:
     """1 for what is so, and 0 for what isn't."""
     return None if fact is None else int(fact)
@@ -82,9 +77,9 @@ class Answers:
     """once a message: the upper end"""
     total = Column("int64", of_matchings(lambda it: it.total))
     """penalty points in all: `point_penalty` and `leg_penalty` together"""
-    point_penalty = Column("int64", of_matchings(lambda it: it.total - penalty_of_legs(it)))
+    point_penalty = Column["AnswerRows"]("int64", lambda rows: rows.penalties_of_points())
     """penalty points of the points of the reference: for distance, direction, class and form"""
-    leg_penalty = Column("int64", of_matchings(penalty_of_legs))
+    leg_penalty = Column["AnswerRows"]("int64", lambda rows: rows.penalties_of_legs)
     """penalty points of the paths between them: for their lengths"""
     gap = Column("int64", of_rows(lambda it: it.gap))
     """by how many points its total is worse than the best one"""

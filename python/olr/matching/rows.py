@@ -6,9 +6,9 @@ from functools import cached_property
 from itertools import groupby
 from typing import TYPE_CHECKING, Any, Literal, NamedTuple, TypeVar, get_args
 
-from olr.arrays import Booleans, Floats, Integers
+from olr.arrays import Booleans, Floats, Integers, sums_of
 from olr.confidence.judged import Judged, JudgedPlace
-from olr.geometry.parts import Parts, Polylines, parts_of, polylines_of
+from olr.geometry.parts import Parts, Polylines, members_of, parts_of, polylines_of
 from olr.model.answers import Matching, Page, Places
 from olr.model.fault import Fault
 from olr.model.pieces import Pieces, Spots, between
@@ -75,11 +75,11 @@ class Row(NamedTuple):
             return Pieces(between(one.route, one.earliest, one.latest))
         return one.outer if extent == "outer" else one.inner
 
-    def shape(self, extent: Extent) -> Spots | None:
+    def shape(self, extent: Extent) -> Spots | bytes | None:
         """Where that lies; of a point along a line where its middle is. None too where nobody asked."""
         one = self.matching
         if one is None or one.shape is None:
-            return None
+            return None if one is None else one.geometry
         if one.spot is not None:
             return Spots([one.spot.middle])
         return one.shape.outer if extent == "outer" else one.shape.inner
@@ -139,6 +139,21 @@ class AnswerRows:
         parts = self.parts()
         self._are_located: Booleans = np.array([one is not None for one in parts], dtype=np.bool_)
         self._are_points: Booleans = np.array([one == "point" for one in parts], dtype=np.bool_)
+
+    @cached_property
+    def penalties_of_legs(self) -> list[int | None]:
+        """The penalty points of the paths of each matching."""
+        legs = [one.legs for one in self.matchings if one is not None]
+        (penalties,), counts = members_of(legs, ["penalty"])
+        sums = iter(sums_of(penalties, counts).tolist())
+        return [None if one is None else next(sums) for one in self.matchings]
+
+    def penalties_of_points(self) -> list[int | None]:
+        """The others of its total: its points needn't be read."""
+        return [
+            None if one is None or legs is None else one.total - legs
+            for one, legs in zip(self.matchings, self.penalties_of_legs)
+        ]
 
     def parts(self) -> list[str | None]:
         """What is shown."""
@@ -274,10 +289,7 @@ class _Lines:
 
 def _metres(parts: Parts) -> Floats:
     """The length of each part."""
-    lengths = parts.pieces[:, 2] - parts.pieces[:, 1]
-    sums = np.insert(np.cumsum(lengths), 0, 0)
-    behind = np.cumsum(parts.counts)
-    result: Floats = (sums[behind] - sums[behind - parts.counts]) / 10
+    result: Floats = sums_of(parts.pieces[:, 2] - parts.pieces[:, 1], parts.counts) / 10
     return result
 
 

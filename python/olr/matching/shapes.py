@@ -7,7 +7,7 @@ import numpy as np
 import struct
 from functools import cache
 
-from olr.arrays import Floats, Integers
+from olr.arrays import Floats
 from olr.geometry.parts import Polylines
 from olr.regions.geopackage import WGS_84
 
@@ -20,10 +20,9 @@ _WITH_BOX = 3
 def wkb(shapes: Polylines) -> list[bytes | None]:
     """The geometries as well-known binary."""
     data = np.ascontiguousarray(shapes.points, dtype="<f8").tobytes()
-    behind = 16 * np.cumsum(shapes.sizes)
     return [
-        _front(size) + data[end - 16 * size : end] if size else None
-        for size, end in zip(shapes.sizes.tolist(), behind.tolist())
+        _front(size) + data[16 * first : 16 * (first + size)] if size else None
+        for size, first in zip(shapes.sizes.tolist(), shapes.first().tolist())
     ]
 
 
@@ -35,13 +34,14 @@ def _front(size: int) -> bytes:
 
 def boxes(shapes: Polylines) -> Floats:
     """The least and the greatest longitude, then latitude, of each row that has something."""
-    sizes = shapes.sizes[shapes.sizes > 0]
-    if not len(sizes):
+    first, of_rows = np.unique(shapes.first()[shapes.sizes > 0], return_inverse=True)
+    if not len(first):
         return np.zeros((0, 4))
-    first: Integers = np.cumsum(sizes) - sizes
     least = np.minimum.reduceat(shapes.points, first)
     greatest = np.maximum.reduceat(shapes.points, first)
-    return np.stack([least[:, 0], greatest[:, 0], least[:, 1], greatest[:, 1]], axis=1)
+    found = np.stack([least[:, 0], greatest[:, 0], least[:, 1], greatest[:, 1]], axis=1)
+    result: Floats = found[of_rows]
+    return result
 
 
 def blobs(shapes: Polylines) -> list[bytes | None]:

@@ -57,10 +57,10 @@ class GeoJson:
 def features_of(values: Mapping[str, Sequence[Any]], shapes: Polylines) -> Iterator[str]:
     """The feature of each row, on one line."""
     points = np.round(shapes.points, DIGITS)
-    behind = np.cumsum(shapes.sizes).tolist()
-    for size, end, row in zip(shapes.sizes.tolist(), behind, zip(*values.values())):
+    firsts = shapes.first().tolist()
+    for size, first, row in zip(shapes.sizes.tolist(), firsts, zip(*values.values())):
         # As lists they take ten times as much: those of one row at a time.
-        geometry = _geometry(points[end - size : end].tolist())
+        geometry = _geometry(points[first : first + size].tolist())
         feature = {"type": "Feature", "properties": dict(zip(values, row)), "geometry": geometry}
         yield json.dumps(feature, ensure_ascii=False, separators=(",", ":"))
 

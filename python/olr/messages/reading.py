@@ -12,7 +12,6 @@ from olr.errors import ToolError, readable
 from olr.content import Stamp
 from olr.messages.binary import BINARY, binary_format_of, refuse_binary
 from olr.messages.detecting import format_of, look_ahead, with_references
-from olr.messages.elements import messages_of_xml
 from olr.messages.lines import messages_of_lines
 from olr.messages.documents import (
     messages_of_documents,
@@ -186,6 +185,9 @@ def _of_format(
     if kind == "tab":
         return messages_of_lines(stream, errors, name)
     if kind == "xml":
+        # Who reads other messages starts sooner without it.
+        from olr.messages.elements import messages_of_xml
+
         return messages_of_xml(stream, reading, name)
     if kind == "csv":
         return messages_of_table(text_lines(stream, "", name), reading, name)

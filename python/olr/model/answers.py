@@ -194,8 +194,16 @@ class SpotsOnRoute:
     middle: Spot
 
 
+class OnTheEarth(Displayed):
+    """What may have been asked for with where it lies."""
+
+    geometry: bytes | None = None
+    """Of one part of it, or of the middle of a point along a line: the coordinates of its points in degrees, as an array of GeoJSON. None where
+    nobody asked for it. It is no part of the answer, and not of its JSON."""
+
+
 @dataclass(frozen=True, repr=False)
-class Matching(Displayed):
+class Matching(OnTheEarth):
     """One way in which a reference fits the map. Lengths and positions are in decimetres, penalties in points.
 
     >>> import olr
@@ -209,7 +217,7 @@ class Matching(Displayed):
     """
 
     cursor: str
-    legs: tuple[Leg, ...]
+    legs: Sequence[Leg]
     points: Sequence[Candidate]
     route: Pieces
     total: int

@@ -3,6 +3,7 @@
 A route is drawn where the answer was asked for with its shape, and the points of a reference where the answer knows its reference.
 """
 
+import json
 import math
 from abc import abstractmethod
 from collections.abc import Mapping, Sequence
@@ -101,6 +102,12 @@ def plain(value: Any) -> Any:
     if isinstance(value, (tuple, Late)):
         return [plain(item) for item in value]
     return value
+
+
+def text_of(items: Sequence[Any]) -> bytes:
+    """Items of an answer, such as the legs of a matching, as the text of the program's JSON."""
+    text = items.unread() if isinstance(items, Late) else None
+    return json.dumps(plain(items)).encode() if text is None else text
 
 
 def counted(number: int, word: str) -> str:

@@ -25,6 +25,11 @@ class Late(Sequence[Item], Generic[Item]):
     def _read(self, text: bytes) -> tuple[Item, ...]:
         """The items of a text. Raises `ValueError` if it isn't one."""
 
+    def unread(self) -> bytes | None:
+        """Their text, as long as nobody has looked at them."""
+        held = self._held
+        return held if isinstance(held, bytes) else None
+
     def _all(self) -> tuple[Item, ...]:
         held = self._held
         if isinstance(held, bytes):

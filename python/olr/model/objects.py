@@ -1,6 +1,7 @@
 """From the JSON of the program to the objects of `answers`."""
 
 import json
+import re
 from collections.abc import Callable, Iterator, Mapping, Sequence
 from contextlib import contextmanager
 from typing import Any, NamedTuple, TypeVar
@@ -99,7 +100,7 @@ def _shape(found: Json, lists: Lists) -> Shape:
 
 
 def _matching(found: Json, lists: Lists) -> Matching:
-    found["legs"] = _all_made(Leg, found["legs"])
+    found["legs"] = LegsOfMatching(lists.texts[found["legs"]], lists.digest)
     found["points"] = Points(lists.texts[found["points"]], lists.digest)
     found["route"] = Pieces(lists.texts[found["route"]], lists.digest)
     if "outer" in found:
@@ -125,6 +126,15 @@ class Points(Late[Candidate]):
         return _points(json.loads(text))
 
 
+class LegsOfMatching(Late[Leg]):
+    """The legs of a matching."""
+
+    __slots__ = ()
+
+    def _read(self, text: bytes) -> tuple[Leg, ...]:
+        return _all_made(Leg, json.loads(text))
+
+
 class Matchings(Late[Matching]):
     """The matchings of a page."""
 
@@ -146,7 +156,7 @@ def _candidates(found: Json, _: Lists) -> Candidates:
 
 def _places(found: Json, lists: Lists) -> Places:
     listed = tuple(
-        PlaceOfReference(**one | {"matching": _matching(one["matching"], lists)})
+        _made(PlaceOfReference, one | {"matching": _matching(one["matching"], lists)})
         for one in found["places"]
     )
     return Places(**_renamed(found, places=listed))
@@ -207,6 +217,39 @@ _READERS: Mapping[str, Callable[[Json, Lists], Any]] = {
 }
 
 
+def number_of_candidates(answer: bytes) -> int:
+    """How many candidates all points have together, by the answer to `candidates`, of which nothing else is read. Raises `ValueError` if it is
+    another one."""
+    if _BEGINNINGS.get(answer.partition(b":")[0]) != "candidates":
+        raise ValueError("it doesn't begin as one")
+    return answer.count(b'"penalty":')
+
+
+def read_drawn(what: What, answer: bytes, digest: str | None) -> Page | Places:
+    """As `read_answer`, of the GeoJSON of `match` or `places`: each matching has its `geometry`, and no `shape`."""
+    with _as_answer(what):
+        text, texts = _taken_apart(answer)
+        lists, found = Lists(texts, digest), json.loads(text)
+        drawn = [_drawn(feature, lists) for feature in found.pop("features")]
+        if what == "match":
+            return Page(tuple([_matching(one, lists) for one in drawn]), found["next"])
+        del found["type"]
+        return _places({**found, "places": drawn}, lists)
+
+
+def _drawn(feature: Json, lists: Lists) -> Json:
+    """The members of a matching or place, which has the geometry of its feature."""
+    members: Json = feature["properties"]
+    geometry = feature["geometry"]
+    # A point along a line has no part, and its coordinates are two numbers.
+    members.pop("part", None)
+    if geometry is not None:
+        at = geometry["coordinates"]
+        text = lists.texts[at] if isinstance(at, int) else json.dumps([at]).encode()
+        members.get("matching", members)["geometry"] = text
+    return members
+
+
 def reference(text: bytes) -> Reference:
     """What `show` prints. Raises `ValueError` if it is something else."""
     with _as_answer("show"):
@@ -229,8 +272,14 @@ _ANSWER, _BEHIND = b'{"answer":', b',"fault":'
 _MATCHINGS, _NEXT = b'{"matchings":[', b'],"next":'
 
 
-_CUTS = ((b"", b"[[", b"]]", b""), (b'"points":', b"[", b"]", b',"route":'))
-"""How lists begin and end, with what stands before and behind them: those of pieces and of spots, and the points of matchings."""
+_LISTS = re.compile(
+    rb"""(\[(?:
+        \[[^"]*\]\]  # of pieces or spots: no name is in them
+        |\{"(?:at|greatest|length)":(?:[^]]*\])+?(?<=\}\])  # the points and legs of a matching
+    ))""",
+    re.VERBOSE,
+)
+"""The lists of which an answer is nearly all."""
 
 
 class RawLine(NamedTuple):
@@ -246,12 +295,12 @@ class RawLine(NamedTuple):
 def raw_line(line: bytes) -> RawLine:
     """A line of `olr batch`, of which the answer isn't read. Raises `ValueError` if it isn't such a line."""
     # No text within has these bytes, whose quotes would be escaped there.
-    head, found, tail = line.rpartition(_BEHIND)
-    answer = head.removeprefix(_ANSWER)
-    if not found or answer == head:
+    end = line.rfind(_BEHIND)
+    if end < 0 or not line.startswith(_ANSWER):
         raise ValueError("it doesn't begin as one")
+    answer = line[len(_ANSWER) : end]
     with _as_answer("a record"):
-        about = json.loads(b'{"fault":' + tail)
+        about = json.loads(b"{" + line[end + 1 :])
         raw = RawLine(answer, about["fault"], about["key"], about["record"])
         texts = all(isinstance(it, (str, type(None))) for it in (raw.fault, raw.key))
         if not texts or not isinstance(raw.record, int):
@@ -300,19 +349,11 @@ def _as_answer(what: str) -> Iterator[None]:
 
 
 def _taken_apart(line: bytes) -> tuple[bytes, list[bytes]]:
-    """A line with numbers in place of its lists, from 0, and these lists. Raises `ValueError` for one that has no end."""
-    lists: list[bytes] = []
-    for front, begin, end, behind in _CUTS:
-        texts, at = [], 0
-        while (found := line.find(front + begin, at)) >= 0:
-            first = found + len(front)
-            last = line.index(end + behind, first) + len(end)
-            texts.append(b"%b%d" % (line[at:first], len(lists)))
-            lists.append(line[first:last])
-            at = last
-        texts.append(line[at:])
-        line = b"".join(texts)
-    return line, lists
+    """A line with numbers in place of its lists, from 0, and these lists."""
+    parts = _LISTS.split(line)
+    lists = parts[1::2]
+    parts[1::2] = map(b"%d".__mod__, range(len(lists)))
+    return b"".join(parts), lists
 
 
 def _without_matchings(line: bytes) -> tuple[bytes, list[bytes]]:

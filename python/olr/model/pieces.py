@@ -42,10 +42,9 @@ class _Numbers(Late[Item]):
 
     def text(self) -> bytes:
         """The items as the program's JSON has them."""
-        held = self._held
-        if isinstance(held, bytes):
-            return held
-        return json.dumps([list(map(int, cast(tuple[int, ...], item))) for item in held]).encode()
+        if (text := self.unread()) is not None:
+            return text
+        return json.dumps([list(map(int, cast(tuple[int, ...], item))) for item in self]).encode()
 
 
 class Pieces(_Numbers[Piece]):
