@@ -1,5 +1,5 @@
 #!/usr/bin/env python3
-"""Measures what the likely order and detail cost: instructions of `batch places` over many references, asked in five ways.
+"""Measures what the likely order, detail and shapes cost: instructions of `batch places` over many references, asked in six ways.
 
     bench/likely.py --program crates/olr/out/olr --map /tmp/full --input /tmp/full/messages.txt
 
@@ -16,7 +16,7 @@ from answer import counted
 from compare import table
 
 FAR = ["--within", "14620", "--most", "100"]
-WAYS = (FAR, [], ["--detail"], ["--order", "likely"], ["--order", "likely", "--detail"])
+WAYS = (FAR, [], ["--shape"], ["--detail"], ["--order", "likely"], ["--order", "likely", "--detail"])
 
 
 def main():
