@@ -28,15 +28,12 @@ fn answer_one<D: Disk, O: Sink>(
         let mut bans = In::new(&[] as &[u8]);
         return run(alloc, request, &mut nodes, &mut lines, &mut bans, out);
     };
-    let mut files = open_files(alloc, disk, files)?;
-    run(
-        alloc,
-        request,
-        &mut files.nodes,
-        &mut files.lines,
-        &mut files.bans,
-        out,
-    )
+    let MapFiles {
+        mut nodes,
+        mut lines,
+        mut bans,
+    } = open_files(alloc, disk, files)?;
+    run(alloc, request, &mut nodes, &mut lines, &mut bans, out)
 }
 
 /// Answers a request for the legs of a matching on the map of these files.
@@ -47,15 +44,12 @@ fn answer_legs<D: Disk, O: Sink>(
     disk: &mut D,
     out: &mut O,
 ) -> Result<(), Fault> {
-    let mut files = open_files(alloc, disk, files)?;
-    run_legs(
-        alloc,
-        asked,
-        &mut files.nodes,
-        &mut files.lines,
-        &mut files.bans,
-        out,
-    )
+    let MapFiles {
+        mut nodes,
+        mut lines,
+        mut bans,
+    } = open_files(alloc, disk, files)?;
+    run_legs(alloc, asked, &mut nodes, &mut lines, &mut bans, out)
 }
 
 /// Answers a request for the lines of the map of these files.
@@ -66,33 +60,29 @@ fn answer_lines<D: Disk, O: Sink>(
     disk: &mut D,
     out: &mut O,
 ) -> Result<(), Fault> {
-    let mut files = open_files(alloc, disk, files)?;
-    run_lines(
-        alloc,
-        asked,
-        &mut files.nodes,
-        &mut files.lines,
-        &mut files.bans,
-        out,
-    )
+    let MapFiles {
+        mut nodes,
+        mut lines,
+        mut bans,
+    } = open_files(alloc, disk, files)?;
+    run_lines(alloc, asked, &mut nodes, &mut lines, &mut bans, out)
 }
 
 /// Answers the records of an input on the map of these files.
 fn answer_input<F: Source + Drop, I: Source, O: Sink>(
     alloc: Global,
     records: &Records,
-    mut files: MapFiles<F>,
+    files: MapFiles<F>,
     input: &mut I,
     out: &mut O,
 ) -> Result<(), Fault> {
+    let MapFiles {
+        mut nodes,
+        mut lines,
+        mut bans,
+    } = files;
     run_batch(
-        alloc,
-        records,
-        &mut files.nodes,
-        &mut files.lines,
-        &mut files.bans,
-        input,
-        out,
+        alloc, records, &mut nodes, &mut lines, &mut bans, input, out,
     )
 }
 

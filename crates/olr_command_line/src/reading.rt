@@ -1,6 +1,6 @@
 //! The map of files.
 
-use crate::opening::{Disk, open_files};
+use crate::opening::{Disk, MapFiles, open_files};
 use olr_app::Fault;
 use olr_map::read_map_with_bans;
 use olr_road::Map;
@@ -15,7 +15,11 @@ use std::alloc::Global;
 /// [`Fault::OpenFailed`] with the first file that can't be opened; else the fault of the map, as
 /// [`read_map_with_bans`] answers it.
 pub fn read_map_of<D: Disk>(alloc: Global, files: &Files<'_>, disk: &mut D) -> Result<Map, Fault> {
-    let mut files = open_files(alloc, disk, files)?;
-    let map = read_map_with_bans(alloc, &mut files.nodes, &mut files.lines, &mut files.bans)?;
+    let MapFiles {
+        mut nodes,
+        mut lines,
+        mut bans,
+    } = open_files(alloc, disk, files)?;
+    let map = read_map_with_bans(alloc, &mut nodes, &mut lines, &mut bans)?;
     Ok(map)
 }
