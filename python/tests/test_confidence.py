@@ -13,13 +13,21 @@ import olr
 from confidences import made_terms
 from conftest import REFERENCE, TOP, Program
 from olr.arrays import Floats
-from olr.confidence.calibrating import level_of
+from olr.confidence.calibrating import Chosen, Said, level_of
 from olr.confidence.confidence import Confidence
 from olr.confidence.contents import text_of
 from olr.confidence.feed import statistics_of
-from olr.confidence.fitting import NONE, Checked, Trial, fitted, shift_of, shifted
+from olr.confidence.fitting import NONE, Checked, Trial, fitted, shift_of, shift_to, shifted
 from olr.confidence.judged import Judging, judged
-from olr.confidence.likeness import RIDGE, Likeness, Range, alike, range_of
+from olr.confidence.likeness import (
+    RIDGE,
+    Likeness,
+    Range,
+    alike,
+    are_outside,
+    counting,
+    range_of,
+)
 from olr.confidence.parts import Part, right_places
 from olr.confidence.weights import (
     OF_NONE,
@@ -107,14 +115,31 @@ def test_what_is_seen_of_answers_without_a_place() -> None:
     assert (without, set(others)) == (1, {0})
 
 
+def test_the_odds_of_a_part() -> None:
+    """Of 7 places 3 are right: with half a place more on each side the odds are 3.5 to 4.5. Without answers they are even."""
+    assert part_of(7, 3).seen() == pytest.approx(3 / 7)
+    assert part_of(7, 3).odds() == pytest.approx(math.log(3.5 / 4.5))
+    assert (part_of(0, 0).seen(), part_of(0, 0).odds()) == (0, 0)
+
+
 def test_how_far_the_level_is_off() -> None:
     """A half is told of each place. Of a part 60 of 100 are right, which is .1 too many, and .05 would be so by chance; of another one,
     which counts a third of that, 50 of 100. Less than chance is nothing."""
     weights = np.zeros(len(WEIGHTS))
     parts = [part_of(100, 60), part_of(100, 50)]
-    found = level_of(parts, np.array([3.0, 1.0]), weights)
+    found = level_of(parts, Chosen(np.array([3.0, 1.0])), weights)
     assert found == pytest.approx(math.sqrt((3 * (0.1**2 - 0.05**2) - 0.05**2) / 4))
-    assert level_of(parts[1:], np.ones(1), weights) == 0
+    assert level_of(parts[1:], Chosen(np.ones(1)), weights) == 0
+
+
+@pytest.mark.parametrize("outside, besides", [([], 0.0), (["mean distance"], 0.1)])
+def test_how_far_the_level_of_a_feed_is_off(outside: list[str], besides: float) -> None:
+    """What the numbers of parts say counts then: .8 of the first one, .5 of the other one. It is a tenth more for a feed unlike all parts."""
+    parts = [part_of(100, 60), part_of(100, 50)]
+    said = Said({}, 0.7, np.array([0.8, 0.5]), outside)
+    found = level_of(parts, Chosen(np.ones(2), said), np.zeros(len(WEIGHTS)))
+    variance = (0.2**2 - 0.8 * 0.2 / 100 - 0.5 * 0.5 / 100) / 2
+    assert found == pytest.approx(math.sqrt(variance + besides**2))
 
 
 def test_they_add_up_to_1_however_large_weights_are() -> None:
@@ -204,30 +229,68 @@ def test_checked_answers_shift_the_level() -> None:
     assert told[0] > 0.85 and told[1] == pytest.approx(29 / 40, abs=0.01) and told[2] < 0.3
 
 
+@pytest.mark.parametrize("right, told", [(0.6, 0.6), (0.01, 0.01), (0.0, 0.0), (1.0, 1.0)])
+def test_a_level_that_is_wanted(right: float, told: float) -> None:
+    """Such a share of likeliest places is told to be right then, as far as the shift may go."""
+    differences = Differences(
+        np.array([1, 2]), np.zeros((3, 5)), np.array([(1.0, 0, 0), (1, 2, 0)])
+    )
+    weights, first = np.array([0, 0, 0, 0, 0, -1.0, 0.5, 0]), np.array([True, True, False])
+    shift = shift_to(weights, differences, first, right)
+    found = probabilities(shifted(weights, shift), differences).of_place[first].mean()
+    # Half of the second answer's probability is that of its other place.
+    assert found == pytest.approx(min(told, 0.75), abs=2e-3) and abs(shift) <= 8
+
+
 def test_parts_that_are_alike() -> None:
-    """What is known of parts is twice their first number and once their second, without an error: so is what is said of a feed."""
+    """What is known of parts is twice their first number less their second, without an error: so is what is said of a feed."""
     draws = np.random.default_rng(3)
     statistics = draws.normal(size=(60, 4))
-    known = np.stack([2 * statistics[:, 0], statistics[:, 1]], axis=1)
+    known = 2 * statistics[:, 0] - statistics[:, 1]
     likeness = Likeness(statistics, known)
     assert np.abs(likeness.said - known).max() < 0.6
     said = likeness.said_of(np.array([1.0, -0.5, 0, 0]))
-    assert said.tolist() == pytest.approx([2, -0.5], abs=0.2)
-    weights = alike(likeness.said, said, np.array([0.3, 0.3]))
-    nearest = np.argmin(((likeness.said - said) ** 2).sum(axis=1))
+    assert said == pytest.approx(2.5, abs=0.2)
+    weights = alike(likeness.said, said, 0.3)
+    nearest = np.argmin(np.abs(likeness.said - said))
     assert weights.argmax() == nearest and weights.max() == 1 and (weights >= 0).all()
+
+
+def test_how_many_parts_count() -> None:
+    """Three that count alike are three, and one that counts a third as much as another one makes 16 / 10 of a part."""
+    assert counting(np.array([2.0, 2.0, 0, 2.0])) == pytest.approx(3)
+    assert counting(np.array([3.0, 1.0])) == pytest.approx(1.6)
+
+
+@pytest.mark.parametrize("count, least", [(100, 20), (30, 15)])
+@pytest.mark.parametrize("wanted", [0.0, 50.0])
+def test_enough_parts_count(count: int, least: int, wanted: float) -> None:
+    """Even if all but one are far from what is wanted, or all of them are; of few parts half."""
+    said = np.append(np.linspace(5.0, 9.0, count - 1), 0.0)
+    weights = alike(said, wanted, 0.01)
+    assert least <= counting(weights) < 2 * least
+    assert weights.argmax() == np.argmin(np.abs(said - wanted))
+    # Where many are near, the width is what was given.
+    assert alike(np.zeros(count), 0.3, 0.3).tolist() == [1.0] * count
+
+
+def test_a_feed_that_is_unlike_all_parts() -> None:
+    """The first number is usual; the second is greater than any, but not far; the third is far below, and the fourth far above."""
+    of_parts = np.repeat([[-1.0], [1.0]], 20, axis=0) * np.ones(4)
+    found = are_outside(np.array([0.5, 2.0, -3.1, 4.0]), of_parts)
+    assert found.tolist() == [False, False, True, True]
 
 
 def test_what_is_said_of_a_part_is_said_without_it() -> None:
     """As a regression says it that hasn't that part, with the same scales."""
     draws = np.random.default_rng(4)
-    statistics, known = draws.normal(size=(12, 3)), draws.normal(size=(12, 2))
-    said, middle = Likeness(statistics, known).said, known.mean(axis=0)
+    statistics, known = draws.normal(size=(12, 3)), draws.normal(size=12)
+    said, middle = Likeness(statistics, known).said, known.mean()
     scaled = (statistics - statistics.mean(axis=0)) / statistics.std(axis=0)
     for part in range(12):
         others = np.delete(scaled, part, axis=0)
         square = others.T @ others + RIDGE * np.eye(3)
-        slopes = np.linalg.solve(square, others.T @ (np.delete(known, part, axis=0) - middle))
+        slopes = np.linalg.solve(square, others.T @ (np.delete(known, part) - middle))
         assert said[part] == pytest.approx(scaled[part] @ slopes + middle)
 
 

@@ -119,7 +119,11 @@ def command(
         wanted,
     )
     write_whole(file, text_of(confidence).encode(), force, inputs)
-    for line in (f"{file}: {references:,} trial references", *_lines(confidence), asking.line()):
+    drawn = confidence.about["drawn"]
+    click.echo(f"{file}: {drawn:,} trial references")
+    if drawn < references:
+        click.echo(f"of {references:,} that were wanted: the map has few such paths")
+    for line in (*_lines(confidence), asking.line()):
         click.echo(line)
 
 
@@ -137,6 +141,10 @@ def _lines(confidence: Confidence) -> Iterator[str]:
     if differs is not None:
         between = f"{differs.low:.1f} to {differs.high:.1f}"
         yield f"map differs: {differs.value:.1f} ({between}), 1 as that of another vendor"
+    about = confidence.about
+    yield f"parts that count: {about['counting']:.0f} of {len(about['parts']):,}"
+    if outside := (about["feed"] or {}).get("outside"):
+        yield f"unlike all trials, so that the level is less certain: {', '.join(outside)}"
     if checked is not None:
         yield (
             f"checked: {checked['right']:,} of {checked['answers']:,} right, which shifts \"none of these\" by "

@@ -1,21 +1,32 @@
 """A confidence of one's own map, and of a feed: trials in parts, of which those count that the feed looks like."""
 
+import math
 import numpy as np
 from collections.abc import Mapping, Sequence
 from pathlib import Path
+from scipy.special import expit
 from typing import Any, NamedTuple
 
-from olr.arrays import Floats
+from olr.arrays import Booleans, Floats
 from olr.confidence.confidence import Confidence
-from olr.confidence.feed import LEAST_REFERENCES, statistics_of
-from olr.confidence.fitting import LEAST_CHECKED, Checked, Trial, fitted, shift_of, shifted
+from olr.confidence.feed import LEAST_REFERENCES, SAYING, statistics_of
+from olr.confidence.fitting import (
+    LEAST_CHECKED,
+    Checked,
+    Trial,
+    fitted,
+    shift_of,
+    shift_to,
+    shifted,
+)
 from olr.confidence.likeness import (
     WIDTH_OF_MAPS,
-    WIDTH_OF_REFERENCES,
     WIDTH_OF_WRONG,
     Likeness,
     Range,
     alike,
+    are_outside,
+    counting,
     range_of,
 )
 from olr.confidence.parts import (
@@ -39,6 +50,8 @@ SOME_REFERENCE = "CwVF/yN2yRpnBAFUAAgbpwYBAf9kK0Fa"
 """To ask whether the program reads a map."""
 DECIMALS = 4
 """Of numbers in a file."""
+OUTSIDE = 0.1
+"""How far the level of a feed is off besides, if it is unlike all trials: a standard deviation."""
 
 
 class Wanted(NamedTuple):
@@ -56,12 +69,24 @@ class Wanted(NamedTuple):
     """The map of the sender, on which trials are drawn then."""
 
 
+class Said(NamedTuple):
+    """What the numbers of a feed say."""
+
+    statistics: Mapping[str, float]
+    right: float
+    """The share of its likeliest places that are right."""
+    of_parts: Floats
+    """The same of each part, as its numbers say it."""
+    outside: Sequence[str]
+    """Which numbers are unlike those of any part."""
+
+
 class Chosen(NamedTuple):
     """Which parts count, and how much."""
 
     weights: Floats
-    statistics: Mapping[str, float] | None
-    """Of the feed, if it says something."""
+    said: Said | None = None
+    """If it is the feed that says it."""
 
 
 def calibrated(folder: Path, drawing: Drawing, asking: Asking, wanted: Wanted) -> Confidence:
@@ -84,6 +109,10 @@ def calibrated(folder: Path, drawing: Drawing, asking: Asking, wanted: Wanted) -
         raise ToolError(f"no trial reference has a place: give wider tolerances{apart}")
     chosen = chosen_parts(parts, feed, wanted)
     weights = fitted(trial_of(parts, chosen.weights))
+    level = level_of(parts, chosen, weights)
+    if chosen.said is not None and feed is not None and len(feed.costs):
+        shift = shift_to(weights, differences_of(feed), _are_first(feed), chosen.said.right)
+        weights = shifted(weights, shift)
     checked = _checked(folder, wanted, asking)
     shift = 0.0 if checked is None else shift_of(weights, checked)
     differs = None
@@ -101,7 +130,7 @@ def calibrated(folder: Path, drawing: Drawing, asking: Asking, wanted: Wanted) -
         weights=_rounded(dict(zip(WEIGHTS, shifted(weights, shift)))),
         map_differs=differs,
         about=about,
-        level=round(level_of(parts, chosen.weights, weights), DECIMALS),
+        level=round(level, DECIMALS),
     )
 
 
@@ -144,9 +173,14 @@ def _checked(folder: Path, wanted: Wanted, asking: Asking) -> Checked | None:
         raise ToolError(
             f"{len(right):,} of {len(texts):,} checked messages have a place, and {LEAST_CHECKED} are needed: check more"
         )
+    return Checked(differences_of(terms), _are_first(terms), right)
+
+
+def _are_first(terms: Terms) -> Booleans:
+    """Of each place: whether it is the likeliest one of its answer."""
     first = np.zeros(len(terms.costs), dtype=np.bool_)
     first[terms.first()] = True
-    return Checked(differences_of(terms), first, right)
+    return first
 
 
 def answered_feed(folder: Path, texts: Sequence[str], asking: Asking) -> Terms | None:
@@ -158,29 +192,24 @@ def answered_feed(folder: Path, texts: Sequence[str], asking: Asking) -> Terms |
 
 
 def chosen_parts(parts: Sequence[Part], feed: Terms | None, wanted: Wanted) -> Chosen:
-    """How much each part counts: those that look like the feed, and whose maps are as different as is stated. Without either all count
-    alike."""
-    said: list[Floats] = []
-    aims: list[float] = []
-    widths: list[float] = []
-    statistics = None
-    if feed is not None and len(feed.sizes) >= LEAST_REFERENCES:
-        usual = fitted(trial_of(parts, np.ones(len(parts))))
-        statistics = statistics_of(feed, usual)
-        known = np.array([(part.wrong(), part.references) for part in parts])
-        of_parts = [list(statistics_of(part.terms, usual).values()) for part in parts]
-        likeness = Likeness(np.array(of_parts), known)
-        aims = likeness.said_of(np.array(list(statistics.values()))).tolist()
-        said = list(likeness.said.T)
-        widths = [WIDTH_OF_WRONG, WIDTH_OF_REFERENCES]
+    """How much each part counts: those whose maps are as different as is stated, or that look like the feed. Without either all count alike."""
     if wanted.differ is not None:
-        # What is stated holds, and not what the feed says of how many are wrong.
-        said[:1], aims[:1] = [np.array([part.maps for part in parts])], [wanted.differ]
-        widths[:1] = [WIDTH_OF_MAPS]
-    if not said:
-        return Chosen(np.ones(len(parts)), None)
-    weights = alike(np.stack(said, axis=1), np.array(aims), np.array(widths))
-    return Chosen(weights, statistics)
+        maps = np.array([part.maps for part in parts])
+        return Chosen(alike(maps, wanted.differ, WIDTH_OF_MAPS))
+    if feed is None or len(feed.sizes) < LEAST_REFERENCES:
+        return Chosen(np.ones(len(parts)))
+    usual = fitted(trial_of(parts, np.ones(len(parts))))
+    statistics = statistics_of(feed, usual)
+    names, numbers = list(statistics), np.array(list(statistics.values()))
+    of_parts = np.array([list(statistics_of(part.terms, usual).values()) for part in parts])
+    saying = [names.index(name) for name in SAYING]
+    likeness = Likeness(of_parts[:, saying], np.array([part.odds() for part in parts]))
+    odds = likeness.said_of(numbers[saying])
+    outside = [names[at] for at in np.flatnonzero(are_outside(numbers, of_parts))]
+    return Chosen(
+        alike(likeness.said, odds, WIDTH_OF_WRONG),
+        Said(statistics, float(expit(odds)), expit(likeness.said), outside),
+    )
 
 
 def trial_of(parts: Sequence[Part], weights: Floats) -> Trial:
@@ -197,18 +226,25 @@ def trial_of(parts: Sequence[Part], weights: Floats) -> Trial:
     )
 
 
-def level_of(parts: Sequence[Part], counts: Floats, weights: Floats) -> float:
+def level_of(parts: Sequence[Part], chosen: Chosen, weights: Floats) -> float:
     """How far the share of likeliest places that are right lies from what is told of them, over parts that count so much: a standard
-    deviation, without what is due to chance."""
-    squares = []
-    for part in parts:
-        first = part.terms.first()
-        told = probabilities(weights, differences_of(part.terms))
-        likeliest = told.of_place[first]
-        count = max(len(first), 1)
-        off = float((part.right == first).sum() - likeliest.sum()) / count
-        squares.append(off**2 - float((likeliest * (1 - likeliest)).sum()) / count**2)
-    return float(np.sqrt(max(np.array(squares) @ counts / counts.sum(), 0.0)))
+    deviation, without what is due to chance. It is greater for a feed that is unlike all parts."""
+    sizes = np.array([max(len(part.right), 1) for part in parts])
+    if chosen.said is None:
+        told = np.array([_told_of(part.terms, weights) for part in parts])
+    else:
+        told = chosen.said.of_parts
+    seen = np.array([part.seen() for part in parts])
+    squares = (told - seen) ** 2 - told * (1 - told) / sizes
+    variance = max(float(squares @ chosen.weights / chosen.weights.sum()), 0.0)
+    is_outside = chosen.said is not None and bool(chosen.said.outside)
+    return math.hypot(math.sqrt(variance), OUTSIDE if is_outside else 0.0)
+
+
+def _told_of(terms: Terms, weights: Floats) -> float:
+    """The mean of the probabilities of the likeliest places; 0 where there is none."""
+    told = probabilities(weights, differences_of(terms)).of_place[terms.first()]
+    return float(told.mean()) if len(told) else 0.0
 
 
 def _about(
@@ -217,11 +253,18 @@ def _about(
     """How it was made."""
     feed: Mapping[str, Any] | None = None
     if wanted.feed:
-        numbers = None if chosen.statistics is None else _rounded(chosen.statistics)
-        feed = {"asked": len(wanted.feed), "references": wanted.messages, "statistics": numbers}
+        said = chosen.said
+        feed = {
+            "asked": len(wanted.feed),
+            "outside": [] if said is None else said.outside,
+            "references": wanted.messages,
+            "statistics": None if said is None else _rounded(said.statistics),
+        }
     return {
         "checked": None,
+        "counting": round(counting(chosen.weights), 1),
         "differ": wanted.differ,
+        "drawn": sum(len(part.terms.sizes) for part in parts),
         "pair": None if wanted.pair is None else wanted.pair.name,
         "feed": feed,
         "map": {

@@ -12,6 +12,13 @@ LEAST_REFERENCES = 80
 """A feed of fewer references says too little."""
 LONG_LEG = 500.0
 """Metres: the lengths of shorter legs are too coarse to tell how much two maps differ."""
+SAYING = (
+    "share of references without a place",
+    "share of places that turn back",
+    "median share by which long legs differ from the middle of what it says",
+    "standard deviation of that",
+)
+"""The numbers that say how many likeliest places are wrong. The others depend on a sender's habits at least as much."""
 FAR_END = 10.0
 """Metres that a point lies from the proper end of its line, beyond which it doesn't lie at the junction."""
 

@@ -1,7 +1,7 @@
 """Weights that answers to trials are fitted by, and their level, shifted by answers that somebody checked."""
 
 import numpy as np
-from scipy.optimize import minimize, minimize_scalar
+from scipy.optimize import brentq, minimize, minimize_scalar
 from typing import NamedTuple
 
 from olr.arrays import Booleans, Floats, Integers
@@ -16,6 +16,7 @@ LEAST_CHECKED = 20
 TRUST = 0.5
 """How many worths of the logit a shift usually is: a normal curve of this deviation, so that a few answers don't decide alone."""
 MOST_SHIFT = 8.0
+"""Either way."""
 
 
 class Trial(NamedTuple):
@@ -93,6 +94,18 @@ def shift_of(weights: Floats, checked: Checked) -> float:
 
     found = minimize_scalar(loss, bounds=(-MOST_SHIFT, MOST_SHIFT), method="bounded")
     return float(found.x)
+
+
+def shift_to(weights: Floats, differences: Differences, first: Booleans, right: float) -> float:
+    """By how much the worth of none of these has to be greater, so that such a share of the likeliest places is told to be right."""
+
+    def off(shift: float) -> float:
+        told = probabilities(shifted(weights, shift), differences).of_place[first]
+        return float(told.mean()) - right
+
+    if off(-MOST_SHIFT) <= 0 or off(MOST_SHIFT) >= 0:
+        return -MOST_SHIFT if off(-MOST_SHIFT) <= 0 else MOST_SHIFT
+    return float(brentq(off, -MOST_SHIFT, MOST_SHIFT))
 
 
 def shifted(weights: Floats, shift: float) -> Floats:

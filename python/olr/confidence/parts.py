@@ -1,6 +1,7 @@
 """Trials in parts, which differ in how different their maps and how far off their references are: on a map and what it might be like at
 a sender's, or on a pair of maps."""
 
+import math
 import numpy as np
 import random
 from collections.abc import Iterator, Mapping, Sequence
@@ -24,7 +25,7 @@ from olr.model.road_map import RoadMap
 from olr.outputs import writing
 from olr.progress import progress
 from olr.regions.scratch import scratch_folder
-from olr.trials.changing import Spreads, changed_points
+from olr.trials.changing import Habits, Spreads, changed_points
 from olr.trials.differing import Difference, differing
 from olr.trials.encoder import text_of
 from olr.trials.graph import Graph
@@ -36,6 +37,8 @@ from olr.trials.roads import Roads
 
 ANOTHER = Difference(5.0, 15.0, 4.0, 4.0, 5.0, 1.0)
 """How a map of another maker differs, more or less: a difference of 1."""
+LACKED = 5.0
+"""Percent of roads that only the asked map has, likewise."""
 SPREADS = Spreads()
 """By how much the references of a sender are off, more or less: likewise."""
 GREATEST_DIFFERENCE = 1.5
@@ -44,8 +47,12 @@ GREATEST_SPREAD = 1.5
 """Of their references, likewise."""
 ALIKE = 0.2
 """The share of parts whose maps don't differ at all, and of those whose references are exact."""
-UNEVEN = (0.6, 1.4)
-"""Each kind of difference of a part is so many times as large as the difference of its maps: no two makers differ alike."""
+UNEVEN = 2.5
+"""Each kind of difference of a part is up to so many times as large as that of its maps or references, evenly, and 0 in a fifth of the parts:
+so it is as large in the mean, and no two makers differ alike."""
+SHIFT, TURNED, LONGER = 25.0, (-1.0, 1.0), (-0.5, 1.0)
+"""In half of the parts each: metres by which all points are shifted at most, sectors by which all bearings are off, and intervals by which
+all legs are longer."""
 PARTS, LEAST_OF_PART = 100, 20
 """There are so many parts at most, and each has so many references at least."""
 MOST_LINES = 20_000
@@ -91,10 +98,16 @@ class Part(NamedTuple):
     right: Integers
     """For each answer that has a place the number of the right one among all places, or `NONE`: of several ones the likeliest."""
 
-    def wrong(self) -> float:
-        """The share of likeliest places that aren't the right ones; 0 where there is none."""
+    def seen(self) -> float:
+        """The share of likeliest places that are right; 0 where there is none."""
         first = self.terms.first()
-        return float(np.mean(self.right != first)) if len(first) else 0.0
+        return float(np.mean(self.right == first)) if len(first) else 0.0
+
+    def odds(self) -> float:
+        """The logarithm of the odds that a likeliest place is right; as if half a place more were right and half a place more wrong, so that
+        it is finite."""
+        right = self.seen() * len(self.right)
+        return math.log((right + 0.5) / (len(self.right) - right + 0.5))
 
 
 class Drawing(NamedTuple):
@@ -134,9 +147,9 @@ def parts_of(road_map: RoadMap, drawing: Drawing, asking: Asking) -> Iterator[Pa
             most * max(0.0, 1 - draws.random() / (1 - ALIKE))
             for most in (GREATEST_DIFFERENCE, GREATEST_SPREAD)
         )
-        of_kinds = Difference(*(draws.uniform(*UNEVEN) * value for value in ANOTHER)).times(maps)
+        of_kinds = Difference(*(_uneven(value * maps, draws) for value in ANOTHER))
         here = neighbourhoods.drawn(draws)
-        lacked = Difference(missing=of_kinds.missing * draws.random())
+        lacked = Difference(missing=_uneven(LACKED * maps, draws))
         sender = differing(here, roads, lacked, draws)
         other = differing(here, roads, of_kinds, draws)
         tried = _tried(paths, Graph(sender, roads), count, references, draws)
@@ -164,7 +177,7 @@ def parts_of_pair(folder: Path, sender: Path, drawing: Drawing, asking: Asking) 
             arrays = arrays_of([one.outer for one in found.matchings])
             lines = asked.network().polylines(arrays.pieces, arrays.counts)
             places = lines.each()
-            true = [_points_of(path, geometry) for path in tried.paths]
+            true = [points_of(path, geometry) for path in tried.paths]
             are_right = [
                 is_right_by_geometry(true[owner], place)
                 for owner, place in zip(found.terms.owners().tolist(), places)
@@ -177,9 +190,28 @@ def _tried(
 ) -> _Tried:
     """So many paths of a sender's map, and references to them that are so far off."""
     drawn = list(islice(paths.drawn(graph, draws), count))
-    spreads = SPREADS.times(references)
-    texts = [text_of(changed_points(one.points, spreads, draws)) for one in drawn]
+    spreads = Spreads(*(_uneven(value * references, draws) for value in SPREADS))
+    habits = _habits(draws)
+    # Not all references of a sender are as far off.
+    texts = [
+        text_of(changed_points(one.points, spreads.times(draws.uniform(0, 2)), draws, habits))
+        for one in drawn
+    ]
     return _Tried([one.path for one in drawn], texts)
+
+
+def _uneven(mean: float, draws: random.Random) -> float:
+    """How large a difference of one kind is, which is so large in the mean."""
+    return mean * UNEVEN * max(0.0, 1 - draws.random() / (1 - ALIKE))
+
+
+def _habits(draws: random.Random) -> Habits:
+    """By what all references of a part are off."""
+    angle = draws.uniform(0, 2 * math.pi)
+    shift, turned, longer = (
+        draws.choice((0.0, draws.uniform(*room))) for room in ((0.0, SHIFT), TURNED, LONGER)
+    )
+    return Habits(shift * math.sin(angle), shift * math.cos(angle), turned, longer)
 
 
 def is_right_by_geometry(path: Floats, place: Floats) -> bool:
@@ -187,7 +219,7 @@ def is_right_by_geometry(path: Floats, place: Floats) -> bool:
     return len(place) > 1 and agreement(path, place, ACROSS) >= RIGHT
 
 
-def _points_of(path: Sequence[Stretch], geometry: Network) -> Floats:
+def points_of(path: Sequence[Stretch], geometry: Network) -> Floats:
     """The points of a true path."""
     lengths = geometry.length[geometry.indices_of(np.array([one.line for one in path]))]
     pieces = [

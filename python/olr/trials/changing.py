@@ -34,19 +34,40 @@ class Spreads(NamedTuple):
         return Spreads(*(value * factor for value in self))
 
 
+class Habits(NamedTuple):
+    """By what all references of a sender are off, to the same side."""
+
+    north: float = 0.0
+    """Metres: all points lie so much farther to the north, as if one map were shifted."""
+    east: float = 0.0
+    """And so much farther to the east."""
+    turned: float = 0.0
+    """Sectors, by which bearings are greater, in the mean."""
+    longer: float = 0.0
+    """Intervals of 58.6 m, by which legs are longer, in the mean: so they are where lengths are rounded up."""
+
+
 def changed_points(
-    points: Sequence[ReferencePoint], spreads: Spreads, draws: random.Random
+    points: Sequence[ReferencePoint],
+    spreads: Spreads,
+    draws: random.Random,
+    habits: Habits = Habits(),
 ) -> list[ReferencePoint]:
     """The points of a reference, as a sender with another map has them."""
-    return [_changed_point(point, spreads, draws) for point in points]
+    return [_changed_point(point, spreads, draws, habits) for point in points]
 
 
-def _changed_point(point: ReferencePoint, spreads: Spreads, draws: random.Random) -> ReferencePoint:
+def _changed_point(
+    point: ReferencePoint, spreads: Spreads, draws: random.Random, habits: Habits
+) -> ReferencePoint:
     """A point, as a sender with another map has it."""
     north, east = (draws.uniform(-spreads.position, spreads.position) for _ in range(2))
+    north, east = north + habits.north, east + habits.east
     shrink = math.cos(math.radians(point.lat / 1e6))
     factor = 1 + draws.uniform(-spreads.legs, spreads.legs) / 100
-    interval = None if point.interval is None else round(point.interval * factor)
+    turned = round(draws.uniform(-spreads.bearing, spreads.bearing)) + _whole(habits.turned, draws)
+    longer = _whole(habits.longer, draws)
+    interval = None if point.interval is None else round(point.interval * factor) + longer
     road_class = off_by_one(point.class_, spreads.class_, draws)
     return replace(
         point,
@@ -54,10 +75,15 @@ def _changed_point(point: ReferencePoint, spreads: Spreads, draws: random.Random
         lat=point.lat + round(north / MICRODEGREE),
         class_=road_class,
         form=other_form(point.form, spreads.form, draws),
-        sector=(point.sector + round(draws.uniform(-spreads.bearing, spreads.bearing))) % SECTORS,
-        interval=None if interval is None else min(interval, MOST_INTERVAL),
+        sector=(point.sector + turned) % SECTORS,
+        interval=None if interval is None else min(max(interval, 0), MOST_INTERVAL),
         lowest=_lowest(point, road_class),
     )
+
+
+def _whole(mean: float, draws: random.Random) -> int:
+    """A whole number beside one that isn't, which is their mean."""
+    return math.floor(mean + draws.random()) if mean else 0
 
 
 def _lowest(point: ReferencePoint, road_class: int) -> int | None:

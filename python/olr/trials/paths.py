@@ -23,8 +23,8 @@ WITHIN = 0.15
 that another one lacks."""
 TURNING_BACK = 0.1
 """The share of paths that turn back at a dead end that are kept of those that are drawn: messages are hardly ever about one."""
-MOST_FAILURES = 1_000
-"""After so many draws in a row without a path there are too few of them."""
+MOST_FAILURES = 300
+"""After so many draws in a row without another path there are hardly any more."""
 
 
 class Stretch(NamedTuple):
@@ -43,34 +43,34 @@ class Drawn(NamedTuple):
 
 
 class Paths:
-    """Draws true paths on a map, and references to them. None is drawn twice."""
+    """Draws true paths on a map, and references to them."""
 
     def __init__(self, road_map: RoadMap, likeness: Likeness = Usual()) -> None:
         """The map has all lines of the senders' maps. `likeness` says which paths are wanted."""
         self._lines, self._likeness = Lines(road_map), likeness
-        self._seen: set[tuple[int, ...]] = set()
-        """The lines of the paths that were drawn."""
+        self._has_some = False
 
     def drawn(self, graph: Graph, draws: random.Random) -> Iterator[Drawn]:
-        """Paths of a sender's map, without end. Raises `ToolError` if there are hardly any that weren't drawn."""
+        """Paths of a sender's map, none of them twice, until there are hardly any more. Raises `ToolError` if no sender's map had one."""
         of_class = [np.flatnonzero(graph.classes == road_class) for road_class in range(8)]
+        seen: set[tuple[int, ...]] = set()
         failures = 0
         while failures < MOST_FAILURES:
             found = self._draw(graph, of_class, draws) if len(graph.ids) else None
-            failures = failures + 1 if found is None else 0
-            if found is not None:
-                yield found
-        if not self._seen:
+            lines = () if found is None else tuple(one.line for one in found.path)
+            if found is None or lines in seen:
+                failures += 1
+                continue
+            failures, self._has_some = 0, True
+            seen.add(lines)
+            yield found
+        if not self._has_some:
             raise ToolError("the map has no path of the wanted classes and lengths")
-        raise ToolError(
-            "the map has too few paths of the wanted classes and lengths: "
-            f"{len(self._seen):,} were found, so name a larger map or fewer references"
-        )
 
     def _draw(
         self, graph: Graph, of_class: Sequence[Integers], draws: random.Random
     ) -> Drawn | None:
-        """One path, or None where it was drawn before or there is none such."""
+        """One path, or None where there is none such."""
         beginning = self._likeness.beginning(of_class, draws)
         if beginning is None:
             return None
@@ -78,15 +78,10 @@ class Paths:
         if indices is None or graph.turns_back(indices) and draws.random() >= TURNING_BACK:
             return None
         lines = graph.ids[indices].tolist()
-        if tuple(lines) in self._seen:
-            return None
         path = _stretches(lines, draws)
         ends = path[0].start, path[-1].end
         points = points_of_legs(self._lines, _legs(lines, draws), ends)
-        if points is None:
-            return None
-        self._seen.add(tuple(lines))
-        return Drawn(path, points)
+        return None if points is None else Drawn(path, points)
 
 
 def _path(graph: Graph, first: int, length: float, draws: random.Random) -> list[int] | None:
