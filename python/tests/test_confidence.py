@@ -224,9 +224,9 @@ def test_checked_answers_shift_the_level() -> None:
         again = shifted(weights, shift_of(weights, checked))
         told.append(float(probabilities(again, differences).of_place[0]))
         assert (again[:5] == weights[:5]).all() and (again[6:] == weights[6:]).all()
-        # At the optimum what the answers pull is what a normal curve of deviation a half holds.
-        assert 4 * (again[5] - weights[5]) == pytest.approx(40 * told[-1] - right, abs=0.05)
-    assert told[0] > 0.85 and told[1] == pytest.approx(29 / 40, abs=0.01) and told[2] < 0.3
+        # At the optimum what the answers pull is what a normal curve of deviation 2 holds.
+        assert (again[5] - weights[5]) / 4 == pytest.approx(40 * told[-1] - right, abs=0.05)
+    assert told[0] > 0.97 and told[1] == pytest.approx(29 / 40, abs=0.01) and told[2] < 0.05
 
 
 @pytest.mark.parametrize("right, told", [(0.6, 0.6), (0.01, 0.01), (0.0, 0.0), (1.0, 1.0)])
