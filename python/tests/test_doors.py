@@ -96,7 +96,7 @@ def case(program: Program, tmp_path_factory: pytest.TempPathFactory) -> Iterator
     make_store_of_folder(folder, store)
     road_map = read_map(folder)
     paths = Paths(road_map).drawn(Graph(road_map, Roads(road_map)), random.Random(5))
-    draws, spreads = random.Random(6), Spreads(30, 2, 15, 20, 10)
+    draws, spreads = random.Random(12), Spreads(30, 2, 15, 20, 10)
     drawn = [text_of(changed_points(it.points, spreads, draws)) for it in islice(paths, DRAWN)]
     sure = write_confidence(place / "sure.json", DIFFERS, OF_FEED, FEED, **WEIGHTS)
     made = Case(folder, store, place / "messages.tsv", sure, {}, {})
