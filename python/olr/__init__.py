@@ -39,9 +39,9 @@ run` wrote, and `olr.Confidence` says how probable places are. All names are imp
 | `commands` | the commands of `olr-tools`; `tools` has their names |
 
 The modules beside them serve all of these: `outputs` (files that are written whole or not at all), `content` (what files have in them, by
-digests), `curve` and `sphere` (places along a space-filling curve, and in metres), `arrays`, `counts`, `progress`, `errors`, `streams`
-(standard output and standard error of commands), `sources` (where lines came from, for users), `extras` and `setup` (the modules of others that are
-needed), `version`. docs/ARCHITECTURE.md says which package may lean on which.
+digests), `curve` and `sphere` (places along a space-filling curve, and in metres), `arrays`, `counts`, `reservoir` (some of many
+things), `progress`, `errors`, `streams` (standard output and standard error of commands), `sources` (where lines came from, for users),
+`extras` and `setup` (the modules of others that are needed), `version`. docs/ARCHITECTURE.md says which package may lean on which.
 """
 
 import importlib.util

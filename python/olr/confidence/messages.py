@@ -11,6 +11,7 @@ from olr.messages.message import Reading
 from olr.messages.reading import messages_of
 from olr.model.answers import Reference
 from olr.model.reference import read_reference
+from olr.reservoir import Reservoir
 
 MOST = 2_000
 """So many references of a feed are asked; of a longer one some that are drawn."""
@@ -41,28 +42,22 @@ class Feed(NamedTuple):
 
 def read_line_references(file: Path, reading: Reading, keys: Mapping[str, bool], seed: int) -> Feed:
     """The messages of a file. Raises `ToolError` if it can't be read, has no line reference, or has two references with one of the keys."""
-    draws = random.Random(f"{seed} feed")
-    kept: list[Message] = []
+    some: Reservoir[Message] = Reservoir(MOST, random.Random(f"{seed} feed"))
     by_key: dict[str, Message] = {}
-    count = 0
     for message in messages_of(file, reading):
         reference = read_reference(message.reference)
         if reference is None or reference.kind != "line":
             continue
         found = Message(message.reference, reference)
-        count += 1
-        if len(kept) < MOST:
-            kept.append(found)
-        elif (at := draws.randrange(count)) < MOST:
-            kept[at] = found
+        some.add(found)
         if message.key is not None and message.key in keys:
             if by_key.setdefault(message.key, found).text != found.text:
                 raise ToolError(
                     f"{file}: two messages have the key {message.key!r}, so it isn't known which one was checked"
                 )
-    if not count:
+    if not some.seen:
         raise ToolError(f"{file} has no line reference: name a file that has some")
-    return Feed(kept, by_key, count)
+    return Feed(some.kept, by_key, some.seen)
 
 
 def read_checked(file: Path) -> dict[str, bool]:

@@ -1,7 +1,6 @@
 """Which messages the table of references has."""
 
 import random
-from collections import Counter
 from collections.abc import Mapping
 from typing import NamedTuple
 
@@ -9,6 +8,7 @@ from olr.matching.asking import outcome_of
 from olr.messages.message import Message
 from olr.model.answers import Places
 from olr.model.fault import Fault
+from olr.reservoir import Reservoir
 
 SEED = 1
 ORDER = ("none", "refused", "ambiguous", "open", "unique")
@@ -29,31 +29,22 @@ class Sample:
 
     def __init__(self, most: int) -> None:
         self._most = most
-        self._kept: dict[str, list[Drawn]] = {}
-        self._seen: Counter[str] = Counter()
+        self._kept: dict[str, Reservoir[Drawn]] = {}
         self._draws = random.Random(SEED)
 
     def add(self, message: Message, answer: Places | Fault) -> None:
         """Adds a message, or not."""
-        outcome = outcome_of(answer)
-        kept = self._kept.setdefault(outcome, [])
-        self._seen[outcome] += 1
-        drawn = Drawn(message, answer if isinstance(answer, Fault) else None)
-        if len(kept) < self._most:
-            kept.append(drawn)
-        else:
-            at = self._draws.randrange(self._seen[outcome])
-            if at < self._most:
-                kept[at] = drawn
+        kept = self._kept.setdefault(outcome_of(answer), Reservoir(self._most, self._draws))
+        kept.add(Drawn(message, answer if isinstance(answer, Fault) else None))
 
     def chosen(self) -> list[Drawn]:
         """The sample: what isn't unique first, and then as in the file. Each outcome has an equal share of its rows; one that has fewer
         leaves room to the others."""
-        sizes = {outcome: len(kept) for outcome, kept in self._kept.items()}
+        sizes = {outcome: len(one.kept) for outcome, one in self._kept.items()}
         chosen = [
             (ORDER.index(outcome.partition(",")[0]), drawn.message.record, drawn)
             for outcome, count in sorted(equal_shares(sizes, self._most).items())
-            for drawn in self._draws.sample(self._kept[outcome], count)
+            for drawn in self._draws.sample(self._kept[outcome].kept, count)
         ]
         return [drawn for _, _, drawn in sorted(chosen, key=lambda it: it[:2])]
 
