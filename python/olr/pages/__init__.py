@@ -6,6 +6,7 @@
 | `kept.py` | members of records that are kept, as cells |
 | `picture.js` | `pictureOf`: a scene as a map and a panel; it draws one in place of the other |
 | `picture.css` | its styles |
+| `scenes.js` | `scenesOf`: scenes of many references, which share paths and lines |
 | `table.js` | `sortedTable`: rows that are sorted, filtered and walked through by keys |
 | `map.js` | `mapOfMany`: lines and points by kind, on a canvas of Leaflet |
 | `bars.js` | `tableOfBars`: counts with bars |
@@ -15,7 +16,7 @@
 
 A page is a package with `page.html`, `page.css` and `page.js`, named in the package data of `pyproject.toml`:
 
-    html_of(Template("olr.pages.report", ("bars", "map", "table")), "title", data)
+    html_of(Template("olr.pages.report", ("bars", "map", "scenes", "table")), "title", data)
 
 Its `page.html` is a template of jinja2, with the values `policy`, `title`, `licences`, `leaflet_css`, `css`, `leaflet_js`, `data` and `js`, as
 that of `olr.pages.view`. `css` is that of `base.css`, `shared.css` and the page, `js` that of the components and the page. The script finds the data by

@@ -37,7 +37,7 @@ class Template(NamedTuple):
     package: str
     """The one that has its `page.html`, `page.css` and `page.js`."""
     components: Sequence[str] = ()
-    """Of this package: `bars`, `map`, `picture`, `table`. The page has the styles of each."""
+    """Of this package: `bars`, `map`, `picture`, `scenes`, `table`. The page has the styles of each."""
 
 
 def require_html(file: Path) -> None:

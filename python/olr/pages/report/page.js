@@ -10,18 +10,7 @@
     return made;
   };
 
-  // ---- paths, which the data has as steps of latitude and longitude in microdegrees
-  const pathOf = (steps) => {
-    const path = [];
-    let [lat, lon] = [0, 0];
-    for (let at = 0; at < steps.length; at += 2) {
-      lat += steps[at];
-      lon += steps[at + 1];
-      path.push([lat / 1e6, lon / 1e6]);
-    }
-    return path;
-  };
-  const lines = data.lines.map((line) => ({ ...line, path: pathOf(line.path) }));
+  const { pathOf, lines, sceneOf } = scenesOf(data);
   const shapes = data.shapes.map((shape) => (typeof shape.path === "number" ? { ...shape, path: pathOf(data.scenes[shape.row].paths[shape.path]) } : shape));
 
   // ---- counts
@@ -48,21 +37,6 @@
     : "Behind them are the lines of the map near them.";
 
   // ---- the page of a reference: that of view, with the lines around from those of all
-  const within = (line, [south, west, north, east]) => {
-    const lats = line.path.map((spot) => spot[0]);
-    const lons = line.path.map((spot) => spot[1]);
-    return Math.min(...lats) <= north && Math.max(...lats) >= south && Math.min(...lons) <= east && Math.max(...lons) >= west;
-  };
-  const MOST_LINES = 4000;
-  const sceneOf = (index) => {
-    const { paths, box, near, ...scene } = data.scenes[index];
-    const entries = scene.entries.map((entry) => {
-      const path = (number) => (number === null ? null : pathOf(paths[number]));
-      return { ...entry, route: path(entry.route), outer: path(entry.outer), inner: path(entry.inner) };
-    });
-    const around = lines.filter((line) => within(line, box)).slice(0, MOST_LINES);
-    return { ...scene, entries, lines: around, cut: near - around.length, tiles: data.tiles };
-  };
   const escaped = (text) => text.replace(/[&<>"']/g, (sign) => `&#${sign.charCodeAt(0)};`);
   const pageOf = (index) => {
     const scene = sceneOf(index);

@@ -12,7 +12,7 @@ from olr.pages.report.sentences import left_out, sections, summary
 from olr.pages.view.page import TEMPLATE as VIEW
 from olr.version import VERSION
 
-TEMPLATE = Template("olr.pages.report", ("bars", "map", "table"))
+TEMPLATE = Template("olr.pages.report", ("bars", "map", "scenes", "table"))
 
 
 class About(NamedTuple):
