@@ -7,6 +7,7 @@ from pathlib import Path
 from olr.client.map_client import Map
 from olr.commands import options
 from olr.confidence.choosing import judging_for
+from olr.confidence.fitting import LEAST_CHECKED
 from olr.confidence.shown import Shown
 from olr.matching.asking import Asked
 from olr.matching.columns import ANSWERS
@@ -20,6 +21,7 @@ from olr.model.map_folder import inputs_of
 from olr.outputs import write_whole
 from olr.pages.alone.live import Making, add_addresses, address_of, page_for_list, two_pages
 from olr.pages.alone.module import find_module
+from olr.pages.checked.page import MOST_CHECKED, Checking, page_to_check, require_checkable
 from olr.pages.html import html_of, require_page
 from olr.pages.kept import cells_of
 from olr.pages.report.asking import count
@@ -39,6 +41,14 @@ from olr.pages.view.scene import add_command
 @options.confidence_option
 @options.rows_option("the table and the map have")
 @options.live_option("its references", "the page shows these answers alone")
+@options.count_option(
+    "--check",
+    "Pick so many messages, and write in place of the report a page on which somebody says of each whether its likeliest place is right: it "
+    f"saves the file for --checked of olr-tools calibrate. From {LEAST_CHECKED} to {MOST_CHECKED:,}; 40 are a good number. By default the "
+    "report is written.",
+    least=LEAST_CHECKED,
+    greatest=MOST_CHECKED,
+)
 @options.page_options
 def command(
     messages: Path,
@@ -48,6 +58,7 @@ def command(
     confidence: Path | None,
     rows: int,
     live: bool,
+    check: int | None,
     tiles: str | None,
     file: Path,
     force: bool,
@@ -60,16 +71,26 @@ def command(
     references and the map have at most --rows of them, with an equal share of each verdict and fault. A summary is printed.
     """
     asking = options.of_question("places", chosen)
+    if check is not None and (live or rows != options.ROWS):
+        raise click.UsageError("--check writes another page: leave out --live and --rows")
     inputs = [messages, *inputs_of(folder), *([] if confidence is None else [confidence])]
     require_page(file, force, inputs)
     sure = judging_for(confidence, asking.tolerances, asking.numbers)
     html_of(TEMPLATE, "", {}, tiles)  # What is missing is said before anything is asked.
+    if check is not None:
+        require_checkable(folder)
     if live:
         find_module()
     with ExitStack() as stack:
         asked = stack.enter_context(Map.of_folder(folder, **asking.tolerances, patience=patience))
-        lacking = Lacking(asked, asking.other())
         given = stack.enter_context(message_file(messages, reading))
+        if check is not None:
+            checking = Checking(messages, folder, reading, asking, sure)
+            made_page, lines = page_to_check(checking, asked, given, check, tiles)
+            write_whole(file, made_page.encode(), force, inputs)
+            click.echo("\n".join([f"{file}: {lines[0]}", *lines[1:]]))
+            return
+        lacking = Lacking(asked, asking.other())
         questions = Asked(asked, given, within=Shown.of(asking.numbers).within)
         counted = count(questions, asked, asking.numbers, rows, sure.judging, lacking)
         found = rows_of(counted.sample, asked, asking.numbers, sure.judging)

@@ -1,6 +1,7 @@
 """The messages of a feed, and answers to some of them that somebody checked."""
 
 import csv
+import io
 import random
 from collections.abc import Iterator, Mapping
 from pathlib import Path
@@ -70,6 +71,17 @@ def read_checked(file: Path) -> dict[str, bool]:
         reason = getattr(error, "strerror", None) or "it isn't UTF-8"
         raise ToolError(f"{file} can't be read: {reason}") from error
     return dict(_checked(file, lines))
+
+
+def start_of_line(key: str) -> str | None:
+    """The line of such a file about a message with a key, but for the word at its end. None for a key that no line can have: one with the end
+    of a line in it."""
+    line = io.StringIO()
+    separator = "\t" if "\t" in key else ","
+    csv.writer(line, delimiter=separator, lineterminator="").writerow([key, ""])
+    start = line.getvalue()
+    whole = start + next(iter(WORDS))
+    return start if whole.splitlines() == [whole] and _fields(whole)[0] == key else None
 
 
 def _checked(file: Path, lines: list[str]) -> Iterator[tuple[str, bool]]:

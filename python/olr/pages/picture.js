@@ -350,7 +350,7 @@ function pictureOf({ map: place, panel, tiles = null, onChoose = () => {} }) {
     if (/^[0-9]$/.test(event.key) && Number(event.key) <= many) chooseAndTell(Number(event.key) - 1);
     else if (event.key === "c") toggle.click();
     else if (event.key === "f") whole();
-    else if (!inList && !inMap && many && (event.key === "ArrowDown" || event.key === "ArrowUp")) {
+    else if (!inList && !inMap && many > (chosen < 0 ? 0 : 1) && (event.key === "ArrowDown" || event.key === "ArrowUp")) {
       chooseAndTell((Math.max(chosen, 0) + (event.key === "ArrowDown" ? (chosen < 0 ? 0 : 1) : many - 1)) % many);
       event.preventDefault();
     }

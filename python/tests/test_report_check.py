@@ -1,0 +1,500 @@
+"""`olr-tools report --check`: which messages are picked, the page on which somebody checks them, in Chromium, and the file that it saves, which
+`olr-tools calibrate --checked` takes."""
+
+import csv
+import os
+import pytest
+import random
+import shlex
+from collections.abc import Iterator, Sequence
+from itertools import islice
+from pathlib import Path
+from typing import Any
+
+from browser import Browser
+from conftest import REFERENCE, TOP, Program
+from feeds import MARKUP, data_of, point_along_line
+from olr.client.map_client import Map
+from olr.confidence.confidence import Confidence
+from olr.confidence.judged import Judged, JudgedPlace
+from olr.confidence.messages import read_checked, start_of_line
+from olr.errors import ToolError
+from olr.messages.message import Message
+from olr.model.map_folder import read_map
+from olr.pages.checked import picking
+from olr.pages.checked.picking import Picked, Picking
+from olr.regions.making import make_store_of_folder
+from olr.tools import run
+from olr.trials.encoder import text_of
+from olr.trials.graph import Graph
+from olr.trials.paths import Paths
+from olr.trials.roads import Roads
+from servers import wait_until
+from vector_files import write_tempe
+
+REFERENCES = [
+    line.split("\t")[1] for line in (TOP / "examples/messages.tsv").read_text().split("\n")[:4]
+]
+POINT = point_along_line("CwVF+yN2yhpnBAFdAAsaFg==")
+KEYS = ["k,1", 'k"2', "k\t3", "k\t4,", " k5 ", MARKUP, "key", "ü"]
+"""Of messages: the file quotes some of them."""
+READ = ["--ref", "code", "--key", "id"]
+
+
+@pytest.fixture(scope="module", autouse=True)
+def environment(program: Program) -> Any:
+    """The command finds the program by its environment."""
+    with pytest.MonkeyPatch.context() as patch:
+        patch.setenv("OLR_PROGRAM", os.fspath(program.path))
+        yield
+
+
+# ---- which messages
+
+
+def judged(probability: float | None) -> Judged:
+    """An answer whose likeliest place has a probability."""
+    place: Any = None
+    return Judged([JudgedPlace(place, 1, 1, 0.0, False, probability)], "unique", None)
+
+
+def pick(messages: Sequence[tuple[str | None, str, float | None]], wanted: int) -> Picked:
+    """Those that are picked of messages: each a key, a reference, and the probability of its likeliest place, -1 for none."""
+    made = Picking()
+    for record, (key, reference, probability) in enumerate(messages, 1):
+        made.add(
+            Message(record, key, reference), None if probability == -1 else judged(probability)
+        )
+    return made.picked(wanted)
+
+
+def records(found: Picked) -> list[int]:
+    """The records of what was picked."""
+    return [drawn.message.record for drawn in found.sample]
+
+
+@pytest.mark.parametrize("most", [20_000, 400])
+def test_a_sample_of_all_probabilities(most: int, monkeypatch: pytest.MonkeyPatch) -> None:
+    """One of each fortieth of all messages by their probability, or nearly so where not all are held: in another order, so that the first half of
+    them is a sample too."""
+    monkeypatch.setattr(picking, "MOST", most)
+    ranks = list(range(1_000))
+    random.Random(4).shuffle(ranks)
+    messages = [(f"k{rank}", REFERENCE, rank / 1_000) for rank in ranks]
+    found = pick(messages, 40)
+    there = [ranks[record - 1] for record in records(found)]
+    if most > 1_000:
+        assert [rank // 25 for rank in sorted(there)] == list(range(40))
+    assert all(abs(rank - (25 * at + 12)) < 100 for at, rank in enumerate(sorted(there)))
+    assert 300 < sum(there[:20]) / 20 < 700 and there != sorted(there)
+    assert (len(found.sample), found.possible, found.others, found.lines) == (40, 1_000, {}, 1_000)
+    assert records(pick(messages, 40)) == records(found)
+
+
+def test_a_sample_without_probabilities() -> None:
+    """It is one by the order of the file."""
+    found = pick([(f"k{at}", REFERENCE, None) for at in range(1_000)], 50)
+    assert [(record - 1) // 20 for record in sorted(records(found))] == list(range(50))
+
+
+def test_what_cant_be_checked() -> None:
+    """It is counted, each message once; those of one key and one reference are one message."""
+    one, two, *_ = REFERENCES
+    usual = [(f"k{at}", one, 0.5) for at in range(25)]
+    odd: list[tuple[str | None, str, float | None]] = [
+        ("x1", "?", -1), ("x2", "?", -1), ("x3", POINT, 0.5),
+        (None, one, 0.5), ("", one, 0.5),
+        ("x4", one, -1),
+        ("x\n5", one, 0.5), ("x\u20286", one, 0.5), ("x\r", one, 0.5), ("x\x0b", one, 0.5),
+        ("twice", one, 0.5), ("twice", two, 0.5), ("twice", two, 0.5), ("lost", one, 0.5), ("lost", two, -1),
+        ("same", one, 0.5), ("same", one, 0.5), ("same", POINT, 0.5),
+    ]  # fmt: skip
+    found = pick([*usual, *odd], 100)
+    keys = [drawn.message.key for drawn in found.sample]
+    assert sorted(filter(None, keys)) == sorted([*(f"k{at}" for at in range(25)), "same"])
+    assert found.possible == 26 and found.lines == 25 + len(odd) - 4
+    assert found.others == {
+        picking.NO_LINE: 4, picking.NO_KEY: 2, picking.NO_PLACE: 2, picking.NOT_ONE_LINE: 4,
+        picking.SEVERAL: 4,
+    }  # fmt: skip
+    assert picking.others_text("can't be checked: ", found.others).startswith(
+        "can't be checked: 4 have no line reference, 4 have a key that isn't one line of a file, "
+        "4 have a key that another reference has too, 2 have no key, 2 have no place"
+    )
+
+
+def test_too_few() -> None:
+    """The error says how many calibrate needs, and why others can't be checked."""
+    messages: list[tuple[str | None, str, float | None]] = [
+        (f"k{at}", REFERENCE, 0.5) for at in range(19)
+    ]
+    with pytest.raises(ToolError) as caught:
+        pick([*messages, (None, REFERENCE, 0.5)], 40)
+    assert str(caught.value) == (
+        "20 messages or more are needed for calibrate --checked, and 19 can be checked: 1 has no key"
+    )
+    assert len(pick([*messages, ("k19", REFERENCE, 0.5)], 40).sample) == 20
+
+
+@pytest.mark.parametrize(
+    "key", ["k", *KEYS, "\t", ",", '"', '""', "'", "", " ", "\ufeffk", "right", '"a"\t"b"', "\0"]
+)
+def test_lines_of_keys(key: str, tmp_path: Path) -> None:
+    """What is written is read as that key, in the first line behind the names too."""
+    file = tmp_path / "checked.csv"
+    start = start_of_line(key)
+    file.write_text(f"key,likeliest\n{start}wrong\nother,right\n", encoding="utf-8", newline="")
+    assert read_checked(file) == {key: False, "other": True}
+
+
+@pytest.mark.parametrize("end", ["\n", "\r", "\x0b", "\x0c", "\x1c", "\x85", "\u2028", "\u2029"])
+def test_keys_that_no_line_has(end: str) -> None:
+    assert (
+        start_of_line(f"a{end}b")
+        is start_of_line(f"b{end}")
+        is start_of_line("k" * 200_000)
+        is None
+    )
+
+
+# ---- the command
+
+
+@pytest.fixture(scope="module")
+def place(tmp_path_factory: pytest.TempPathFactory) -> Path:
+    """A folder with the streets of Tempe and a feed of 91 messages on them, of which 27 can be checked."""
+    folder = tmp_path_factory.mktemp("place")
+    road_map = read_map(write_tempe(folder / "tempe"))
+    paths = Paths(road_map).drawn(Graph(road_map, Roads(road_map)), random.Random(9))
+    texts = [text_of(one.points) for one in islice(paths, 90)]
+    keys = [*KEYS, *(f"k{at}" for at in range(8, 28)), "k27", "two\nlines", *[""] * 60]
+    with (folder / "feed.csv").open("w", newline="", encoding="utf-8") as stream:
+        rows = [(key, text, f"street {at} <b>") for at, (key, text) in enumerate(zip(keys, texts))]
+        csv.writer(stream).writerows([("id", "code", "what"), *rows, ("x", "?", "nothing")])
+    return folder
+
+
+def check(place: Path, out: Path, *words: object) -> int:
+    """Runs the command, and answers its status."""
+    given = ["report", place / "feed.csv", "--map", place / "tempe", *READ, "--out", out, *words]
+    return run(list(map(str, given)))
+
+
+@pytest.fixture(scope="module")
+def page(place: Path) -> Path:
+    """The page of all messages that can be checked: keys of all kinds are among them."""
+    assert check(place, place / "page.html", "--check", 200, "--keep", "what") == 0
+    return place / "page.html"
+
+
+def test_what_the_command_says(
+    place: Path, tmp_path: Path, capsys: pytest.CaptureFixture[str]
+) -> None:
+    """How many were picked, what can't be checked, and what to do next, as the page says it too."""
+    file = tmp_path / "page.html"
+    command = "olr-tools calibrate --map tempe --for feed.csv --ref code --key id --checked checked.csv --out confidence.json"
+    others = (
+        "can't be checked: 60 have no key, 2 have a key that another reference has too, 1 has a key that isn't one line of a file, "
+        "1 has no line reference"
+    )
+    few = "30 were wanted: no more can be checked"
+    cases: list[tuple[int, int, list[str]]] = [(20, 20, []), (30, 27, [few])]
+    for wanted, count, more in cases:
+        assert check(place, file, "--check", wanted, "--force") == 0
+        shown = capsys.readouterr().out.splitlines()
+        drawn = f"{count} of 27 messages that can be checked, drawn with seed 1"
+        assert shown[:-2] == [f"{file}: {drawn}", *more, others]
+        assert shown[-2].startswith("asked with: ") and shown[-1] == f"then: {command}"
+        data = data_of(file)
+        assert len(data["rows"]) == len(data["scenes"]) == count and data["command"] == command
+        told = [f"{text[0].upper()}{text[1:]}." for text in (drawn, *more, others)]
+        assert data["drawn"][:-1] == told
+    assert os.fspath(tmp_path) not in file.read_text(encoding="utf-8")
+    assert os.fspath(place) not in file.read_text(encoding="utf-8")
+
+
+def test_the_command_that_is_next(
+    place: Path, tmp_path: Path, capsys: pytest.CaptureFixture[str]
+) -> None:
+    """It has the tolerances and how the messages are read; and of a feed that is too small it says so."""
+    feed = tmp_path / "a feed.tsv"
+    with (place / "feed.csv").open(encoding="utf-8", newline="") as stream:
+        rows = list(csv.reader(stream))[9:29]
+    feed.write_text("".join(f"{key}\t{text}\n" for key, text, _ in rows))
+    words = [
+        "--format",
+        "tab",
+        "--base64",
+        "url",
+        "--profile",
+        "program",
+        "--class",
+        6,
+        "--look",
+        90,
+    ]
+    given = ["report", feed, "--map", place / "tempe", "--out", tmp_path / "page.html", *words]
+    assert run(list(map(str, [*given, "--within", 50, "--check", 20]))) == 0
+    shown = capsys.readouterr().out.splitlines()
+    assert shown[-2].startswith("no probabilities: radius is 100, not 75")
+    assert shlex.split(shown[-1].removeprefix("then: ")) == [
+        "olr-tools", "calibrate", "--map", "tempe", "--for", "a feed.tsv", "--format", "tab", "--base64", "url",
+        "--profile", "program", "--differ", "D", "--class", "6", "--look", "90", "--checked", "checked.csv",
+        "--out", "confidence.json",
+    ]  # fmt: skip
+
+
+def test_the_likeliest_place_alone(place: Path, page: Path) -> None:
+    """It is that of the likely order, and nothing says how probable it is."""
+    data = data_of(page)
+    texts = [scene["reference"] for scene in data["scenes"]]
+    with Map.of_folder(place / "tempe") as asked:
+        answers = [asked.places(text, order="likely", detail=True) for text in texts]
+    assert max(map(len, answers)) > 1
+    for scene, answer, row in zip(data["scenes"], answers, data["rows"], strict=True):
+        (entry,) = scene["entries"]
+        assert entry["cursor"] == answer.places[0].matching.cursor
+        assert entry["outer"] is not None and entry["probability"] == entry["reasons"] == ""
+        assert scene["probability"] == [] and set(row) == {"record", "key", "kept", "start"}
+    with (place / "feed.csv").open(encoding="utf-8", newline="") as stream:
+        read = list(csv.reader(stream))
+    assert [[read[row["record"]][0], row["kept"]] for row in data["rows"]] == [
+        [row["key"], [f"street {row['record'] - 1} <b>"]] for row in data["rows"]
+    ]
+
+
+@pytest.mark.parametrize(
+    ("words", "status", "error"),
+    [
+        (["--check", 19], 2, "19 is not in the range 20<=x<=1000"),
+        (["--check", 1001], 2, "1001 is not in the range 20<=x<=1000"),
+        (["--check", 40, "--live"], 2, "leave out --live and --rows"),
+        (["--check", 40, "--rows", 10], 2, "leave out --live and --rows"),
+        (
+            ["--check", 40, "--key", "what"],
+            1,
+            "needed for calibrate --checked, and 0 can be checked",
+        ),
+    ],
+)
+def test_what_is_refused(
+    words: list[object],
+    status: int,
+    error: str,
+    place: Path,
+    tmp_path: Path,
+    capsys: pytest.CaptureFixture[str],
+) -> None:
+    """Nothing is written then."""
+    feed = tmp_path / "feed.csv"
+    feed.write_text(f"id,code,what\nk,{REFERENCE},\n")
+    out = tmp_path / "page.html"
+    given = ["report", feed, "--map", TOP / "examples", *READ, "--out", out, *words]
+    assert run(list(map(str, given))) == status
+    shown = capsys.readouterr().err
+    assert error in shown and (status == 2 or shown.count("\n") == 1)
+    assert list(tmp_path.iterdir()) == [feed]
+
+
+def test_a_store(place: Path, tmp_path: Path, capsys: pytest.CaptureFixture[str]) -> None:
+    """No file of checked answers about a store would be taken."""
+    store, out = tmp_path / "map.gpkg", tmp_path / "page.html"
+    make_store_of_folder(place / "tempe", store)
+    given = ["report", place / "feed.csv", "--map", store, *READ, "--out", out, "--check", 40]
+    assert run(list(map(str, given))) == 1
+    assert "is a store, and calibrate takes checked answers about a map in a folder" in (
+        capsys.readouterr().err
+    )
+    assert not out.exists()
+
+
+# ---- the page
+
+
+COUNT = "document.querySelector('#count').textContent"
+WHICH = "document.querySelector('#which').textContent"
+ANSWERS = (
+    "[...document.querySelectorAll('.sorted tbody tr')].map(line => line.lastChild.textContent)"
+)
+
+
+@pytest.fixture(scope="module")
+def started(chromium: Browser) -> Iterator[Browser]:
+    """The browser with an empty page for all tests of this file."""
+    with chromium.afresh():
+        yield chromium
+
+
+def opened(browser: Browser, page: Path, width: int = 1280) -> Browser:
+    """The browser with a page, as somebody opens it again."""
+    browser.open(page, width)
+    assert browser.value("document.body.dataset.ready") == "yes"
+    assert (browser.errors, browser.loaded) == ([], [])
+    return browser
+
+
+@pytest.fixture
+def browser(started: Browser, page: Path) -> Iterator[Browser]:
+    """The browser with the page, of which nothing was checked. It has no error and loads nothing, before and after the test."""
+    opened(started, page).value("localStorage.clear()")
+    yield opened(started, page)
+    assert (started.errors, started.loaded) == ([], [])
+
+
+def answers(browser: Browser) -> dict[int, str]:
+    """What was said of the rows of the table, by their numbers."""
+    return {at: text for at, text in enumerate(browser.value(ANSWERS), 1) if text}
+
+
+def saved(browser: Browser, folder: Path) -> Path:
+    """The file that the button has the browser save."""
+    browser.call("Page.setDownloadBehavior", behavior="allow", downloadPath=str(folder))
+    browser.click("#save")
+    wait_until((folder / "checked.csv").exists)
+    return folder / "checked.csv"
+
+
+def test_what_the_page_says(browser: Browser, page: Path) -> None:
+    """What right means, what takes the file, and what it is worth; and of a message its key and what is kept of it, as texts."""
+    texts = browser.value("document.querySelector('header').innerText")
+    assert (
+        "is right if it and the path that the sender meant cover at least 90 percent of each other"
+        in texts
+    )
+    assert "takes 20 checked messages or more: forty decide more" in texts
+    assert data_of(page)["command"] in texts
+    row = data_of(page)["rows"][0]
+    assert browser.value(WHICH) == f"1 of 27: {row['key']}"
+    assert browser.value("document.querySelector('#said').textContent") == f"what: {row['kept'][0]}"
+    assert browser.value("document.querySelectorAll('#evil').length") == 0
+    assert browser.value(COUNT) == "0 of 27 checked: 0 right, 0 wrong. 20 are needed."
+    assert browser.value("document.querySelectorAll('#map .outer').length") == 1
+
+
+def test_clicks_and_keys(browser: Browser) -> None:
+    """An answer goes on to the next message without one; arrows go on without an answer; another answer takes the place of the first one."""
+    browser.click("#right")
+    browser.click("#wrong")
+    assert answers(browser) == {1: "right", 2: "wrong"} and browser.value(WHICH).startswith("3 of")
+    for key in ("ArrowRight", "w", "ArrowLeft", "ArrowLeft", "r"):
+        browser.press(key)
+    assert answers(browser) == {1: "right", 2: "wrong", 3: "right", 4: "wrong"}
+    assert browser.value(WHICH).startswith("5 of")
+    browser.press("ArrowLeft")
+    pressed = "document.querySelector('[aria-pressed=true]').id"
+    assert browser.value(pressed) == "wrong"
+    browser.press("r")
+    assert answers(browser)[4] == "right" and browser.value(WHICH).startswith("5 of")
+    browser.click("tr[data-index='26']")
+    assert browser.value(WHICH).startswith("27 of")
+    browser.press("ArrowRight")
+    browser.press("ArrowLeft")
+    browser.press("r")
+    assert browser.value(WHICH).startswith("5 of")
+    assert browser.value(COUNT) == "5 of 27 checked: 4 right, 1 wrong. 20 are needed."
+
+
+def test_undo(browser: Browser) -> None:
+    """The clicks are taken back, the last one first, with the answers that they took the place of."""
+    undone = "document.querySelector('#undo').disabled"
+    assert browser.value(undone) and browser.value("document.querySelector('#save').disabled")
+    for key in ("r", "w", "ArrowLeft", "r"):
+        browser.press(key)
+    browser.click("#undo")
+    assert answers(browser) == {1: "right", 2: "wrong"} and browser.value(WHICH).startswith("2 of")
+    browser.press("u")
+    assert answers(browser) == {1: "right"} and browser.value(WHICH).startswith("2 of")
+    for _ in range(2):
+        browser.press("u")
+    assert answers(browser) == {} and browser.value(undone)
+
+
+def test_what_was_clicked_is_kept(
+    browser: Browser, place: Path, page: Path, tmp_path: Path
+) -> None:
+    """A page that is opened again has it, and one with other messages doesn't. One that was made again is the same."""
+    for key in ("r", "w", "r"):
+        browser.press(key)
+    there = answers(opened(browser, page))
+    assert there == {1: "right", 2: "wrong", 3: "right"} and browser.value(WHICH).startswith("4 of")
+    browser.press("u")
+    assert len(answers(opened(browser, page))) == 2
+    other, same = tmp_path / "other.html", tmp_path / "same.html"
+    assert check(place, other, "--check", 20, "--keep", "what") == 0
+    assert check(place, same, "--check", 200, "--keep", "what") == 0
+    assert answers(opened(browser, other)) == {}
+    assert len(answers(opened(browser, same))) == 2
+
+
+NO_ROOM = (
+    "Object.defineProperty(window, 'localStorage', { get() { throw new Error('forbidden'); } });"
+)
+
+
+def test_where_nothing_can_be_kept(started: Browser, page: Path, tmp_path: Path) -> None:
+    """The page says so, and works."""
+    script = started.call("Page.addScriptToEvaluateOnNewDocument", source=NO_ROOM)
+    try:
+        opened(started, page).press("r")
+        assert "This browser keeps nothing: save the file before" in started.value(COUNT)
+        assert len(read_checked(saved(started, tmp_path))) == 1
+    finally:
+        started.call("Page.removeScriptToEvaluateOnNewDocument", **script)
+
+
+def test_letters_that_are_typed_elsewhere(browser: Browser) -> None:
+    """In the field that searches they are text, and they can be turned off; arrows move the map that has the focus."""
+    browser.value("document.querySelector('[type=search]').focus()")
+    for key in ("r", "ArrowRight"):
+        browser.press(key)
+    browser.value("document.querySelector('[type=search]').blur()")
+    browser.value("document.querySelector('#toggle-keys').click()")
+    for key in ("r", "w", "u"):
+        browser.press(key)
+    assert answers(browser) == {}
+    browser.press("ArrowRight")
+    assert browser.value(WHICH).startswith("2 of")
+    browser.value("document.querySelector('#map').focus()")
+    browser.press("ArrowRight")
+    assert browser.value(WHICH).startswith("2 of")
+    browser.value("document.querySelector('#toggle-keys').click()")
+    browser.press("r")
+    assert answers(browser) == {2: "right"}
+
+
+def test_the_file_is_taken(
+    browser: Browser,
+    place: Path,
+    page: Path,
+    tmp_path: Path,
+    monkeypatch: pytest.MonkeyPatch,
+    capsys: pytest.CaptureFixture[str],
+) -> None:
+    """All answers, of keys with commas, tabs, quotes and markup too, by the command that the page says, among its messages."""
+    rows = data_of(page)["rows"]
+    draws = random.Random(7)
+    wanted = {row["key"]: draws.random() < 0.7 for row in rows}
+    for row in rows:
+        browser.press("r" if wanted[row["key"]] else "w")
+    right = sum(wanted.values())
+    assert browser.value(COUNT) == (
+        f"27 of 27 checked: {right} right, {27 - right} wrong. All are checked: save the file."
+    )
+    file = saved(browser, tmp_path)
+    assert read_checked(file) == wanted and set(KEYS) <= set(wanted)
+    for name in ("tempe", "feed.csv"):
+        (tmp_path / name).symlink_to(place / name)
+    monkeypatch.chdir(tmp_path)
+    capsys.readouterr()
+    assert run([*shlex.split(data_of(page)["command"])[1:], "--references", "100"]) == 0
+    about = Confidence.of_file(tmp_path / "confidence.json").about["checked"]
+    assert (about["answers"], about["right"]) == (27, right)
+    assert f"checked: {right} of 27 right" in capsys.readouterr().out
+
+
+def test_a_narrow_window(started: Browser, page: Path) -> None:
+    """Nothing is wider, and the buttons stay in sight."""
+    opened(started, page, 400).value("window.scrollTo(0, 1500)")
+    assert started.value("document.documentElement.scrollWidth") <= 400
+    top = "document.querySelector('#right').getBoundingClientRect().top"
+    assert 0 <= started.value(top) < 100
