@@ -42,7 +42,6 @@ NEXT = (
     f"Then save {FILE}, and give it to the command below. It takes {LEAST_CHECKED} checked messages or more: forty decide more about the "
     "level of its probabilities than the whole feed does."
 )
-SAMPLE = "these are a systematic sample of all by the probability of their likeliest places, in a drawn order, so that the first ones of them are one too"
 MOST_CHECKED = 1_000
 """Pictures of a page."""
 
@@ -101,14 +100,15 @@ def page_to_check(
     found = rows_of(pick.sample, asked, numbers, judging)
     kept = kept_columns(given.kept, ANSWERS)
     count, command = len(pick.sample), checking.command(pick.lines)
-    drawn = f"{count:,} of {pick.possible:,} messages that can be checked, drawn with seed {SEED}"
+    by = "probability of their likeliest places" if judging.confidence else "order in the file"
+    drawn = f"{count:,} of {pick.possible:,} messages that can be checked: a systematic sample by the {by}, drawn with seed {SEED}"
     few = f"{wanted:,} were wanted: no more can be checked" if count < wanted else ""
     others = others_text("can't be checked: ", pick.others)
     data: dict[str, Any] = {
         "title": checking.title(),
         "texts": [RIGHT_PLACE, NEXT],
         "command": command,
-        "drawn": [sentence(text) for text in (drawn, few, others, SAMPLE) if text],
+        "drawn": [sentence(text) for text in (drawn, few, others) if text],
         "least": LEAST_CHECKED,
         "file": FILE,
         "kept": list(kept),
