@@ -7,7 +7,7 @@ from pathlib import Path
 from olr.client.map_client import Map
 from olr.commands import options
 from olr.confidence.choosing import judging_for
-from olr.confidence.fitting import LEAST_CHECKED
+from olr.confidence.messages import LEAST_CHECKED
 from olr.confidence.shown import Shown
 from olr.matching.asking import Asked
 from olr.matching.columns import ANSWERS

@@ -11,7 +11,6 @@ from olr.arrays import Booleans, Floats
 from olr.confidence.confidence import Confidence
 from olr.confidence.feed import LEAST_REFERENCES, SAYING, statistics_of
 from olr.confidence.fitting import (
-    LEAST_CHECKED,
     Checked,
     Trial,
     fitted,
@@ -29,6 +28,7 @@ from olr.confidence.likeness import (
     counting,
     range_of,
 )
+from olr.confidence.messages import LEAST_CHECKED
 from olr.confidence.parts import (
     GREATEST_DIFFERENCE,
     Asking,

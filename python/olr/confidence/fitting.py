@@ -11,8 +11,6 @@ NONE = -1
 """In place of the number of a place: none of them is the right one."""
 SHRINKING = 1e-4
 """How strongly a weight of its usual size is drawn to 0: so one of which trials say nothing is 0."""
-LEAST_CHECKED = 20
-"""Fewer answers say too little."""
 TRUST = 2.0
 """How many worths of the logit a shift usually is: a normal curve of this deviation, so that a few answers don't decide alone."""
 MOST_SHIFT = 8.0

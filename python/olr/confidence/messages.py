@@ -16,6 +16,8 @@ from olr.reservoir import Reservoir
 
 MOST = 2_000
 """So many references of a feed are asked; of a longer one some that are drawn."""
+LEAST_CHECKED = 20
+"""Fewer answers that were checked say too little."""
 WORDS = {"right": True, "wrong": False}
 """What a file of checked answers says of the likeliest place of a message."""
 

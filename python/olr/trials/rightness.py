@@ -2,9 +2,12 @@
 
 from collections import defaultdict
 from collections.abc import Iterable, Mapping, Sequence
+from typing import TYPE_CHECKING
 
 from olr.model.pieces import Piece
-from olr.trials.paths import Stretch
+
+if TYPE_CHECKING:
+    from olr.trials.paths import Stretch
 
 RIGHT = 0.9
 """The share of each other that the true path and a place cover at least, if the place is the right one.
@@ -16,7 +19,7 @@ One that lies on the true path may be a small part of it. The tenth is for the e
 
 def is_right(
     lengths: Mapping[int, int],
-    path: Sequence[Stretch],
+    path: Sequence["Stretch"],
     outer: Iterable[Piece],
     share: float = RIGHT,
 ) -> bool:
@@ -28,7 +31,9 @@ def is_right(
     return longer > 0 and _common(lengths, path, pieces) >= share * longer
 
 
-def _common(lengths: Mapping[int, int], path: Sequence[Stretch], pieces: Sequence[Piece]) -> float:
+def _common(
+    lengths: Mapping[int, int], path: Sequence["Stretch"], pieces: Sequence[Piece]
+) -> float:
     """How much of a path lies in pieces, in decimetres. What is there twice counts once."""
     of_line: dict[int, list[tuple[int, int]]] = defaultdict(list)
     for line, start, end in pieces:

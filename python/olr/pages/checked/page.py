@@ -9,8 +9,7 @@ from typing import Any, NamedTuple
 from olr.client.map_client import Map
 from olr.confidence.choosing import Chosen
 from olr.confidence.feed import LEAST_REFERENCES
-from olr.confidence.fitting import LEAST_CHECKED
-from olr.confidence.messages import start_of_line
+from olr.confidence.messages import LEAST_CHECKED, start_of_line
 from olr.confidence.shown import Shown
 from olr.errors import ToolError
 from olr.matching.asking import Asked

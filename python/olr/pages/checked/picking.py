@@ -5,9 +5,8 @@ from collections import Counter
 from collections.abc import Mapping
 from typing import NamedTuple
 
-from olr.confidence.fitting import LEAST_CHECKED
 from olr.confidence.judged import Judged, Judging
-from olr.confidence.messages import start_of_line
+from olr.confidence.messages import LEAST_CHECKED, start_of_line
 from olr.errors import ToolError
 from olr.matching.asking import Asked
 from olr.matching.chunks import Answered, chunks_of
