@@ -17,6 +17,7 @@ from olr.matching.columns import ANSWERS
 from olr.matching.kept_columns import kept_columns
 from olr.messages.message import BASE64, Message, Reading
 from olr.messages.message_file import MessageFile
+from olr.messages.opening import name_of
 from olr.model.asked_with import Asking
 from olr.model.map_folder import store_of
 from olr.model.profiles import DEFAULT_PROFILE, PROFILE
@@ -57,7 +58,7 @@ class Checking(NamedTuple):
 
     def title(self) -> str:
         """What the page is called."""
-        return f"Check: {self.messages.name} on {self.folder.resolve().name}"
+        return f"Check: {Path(name_of(self.messages)).name} on {self.folder.resolve().name}"
 
     def command(self, lines: int) -> str:
         """The command that takes the file next, for messages of which so many have line references. The page is for others too: it has
