@@ -207,7 +207,7 @@ def test_the_command_that_is_next(
     assert shown[-2].startswith("no probabilities: radius is 100, not 75")
     assert shlex.split(shown[-1].removeprefix("then: ")) == [
         "olr-tools", "calibrate", "--map", "tempe", "--for", "a feed.tsv", "--format", "tab", "--base64", "url",
-        "--profile", "program", "--differ", "D", "--class", "6", "--look", "90", "--checked", "checked.csv",
+        "--profile", "program", "--class", "6", "--look", "90", "--differ", "D", "--checked", "checked.csv",
         "--out", "confidence.json",
     ]  # fmt: skip
 

@@ -21,7 +21,7 @@ from olr.model.map_folder import inputs_of
 from olr.outputs import write_whole
 from olr.pages.alone.live import Making, add_addresses, address_of, page_for_list, two_pages
 from olr.pages.alone.module import find_module
-from olr.pages.checked.page import MOST_CHECKED, Checking, page_to_check, require_checkable
+from olr.pages.checked.page import MOST_CHECKED, Checking, page_to_check
 from olr.pages.html import html_of, require_page
 from olr.pages.kept import cells_of
 from olr.pages.report.asking import count
@@ -77,8 +77,6 @@ def command(
     require_page(file, force, inputs)
     sure = judging_for(confidence, asking.tolerances, asking.numbers)
     html_of(TEMPLATE, "", {}, tiles)  # What is missing is said before anything is asked.
-    if check is not None:
-        require_checkable(folder)
     if live:
         find_module()
     with ExitStack() as stack:

@@ -5,13 +5,11 @@
   const { rows } = data;
   const { sceneOf } = scenesOf(data);
   const picture = pictureOf({ map: find("map"), panel: find("panel"), tiles: data.tiles });
-  rows.forEach((row, index) => { row.number = index + 1; });
   const table = sortedTable({
     place: find("rows"),
     caption: "Messages to check",
     rows,
     columns: [
-      { title: "number", number: true, value: (row) => row.number },
       { title: "record", number: true, value: (row) => row.record },
       { title: "key", value: (row) => row.key, mark: () => "key" },
       ...data.kept.map((name, at) => ({ title: name, value: (row) => row.kept[at], mark: () => "kept" })),
@@ -48,7 +46,7 @@
   };
   const tell = () => {
     const row = rows[at];
-    find("which").textContent = `${row.number} of ${rows.length}: ${row.key}`;
+    find("which").textContent = `${at + 1} of ${rows.length}: ${row.key}`;
     find("said").textContent = data.kept.map((name, number) => `${name}: ${row.kept[number] ?? "-"}`).join(", ");
     for (const answer of ["right", "wrong"]) find(answer).setAttribute("aria-pressed", String(row.answer === answer));
     const many = (answer) => rows.filter((one) => one.answer === answer).length;

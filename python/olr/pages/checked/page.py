@@ -2,7 +2,6 @@
 
 import hashlib
 import shlex
-from collections.abc import Sequence
 from pathlib import Path
 from typing import Any, NamedTuple
 
@@ -15,7 +14,7 @@ from olr.errors import ToolError
 from olr.matching.asking import Asked
 from olr.matching.columns import ANSWERS
 from olr.matching.kept_columns import kept_columns
-from olr.messages.message import BASE64, Message, Reading
+from olr.messages.message import Reading
 from olr.messages.message_file import MessageFile
 from olr.messages.opening import name_of
 from olr.model.asked_with import Asking
@@ -63,37 +62,30 @@ class Checking(NamedTuple):
     def command(self, lines: int) -> str:
         """The command that takes the file next, for messages of which so many have line references. The page is for others too: it has
         names without the folders above."""
-        reading, asking = self.reading, self.asking
-        others = {
-            "format": reading.format,
-            "ref": reading.ref,
-            "key": reading.key,
-            "base64": None if reading.base64 == BASE64[0] else reading.base64,
-            PROFILE: None if asking.profile == DEFAULT_PROFILE else asking.profile,
-            "differ": None if lines >= LEAST_REFERENCES else "D",
-        }
+        usual = {**Reading()._asdict(), PROFILE: DEFAULT_PROFILE}
+        given = {**self.reading._replace(keep=())._asdict(), PROFILE: self.asking.profile}
+        numbers = {**self.asking.given, **self.asking.numbers}
         words = ["olr-tools", "calibrate", "--map", self.folder.resolve().name]
         words += ["--for", self.messages.name]
-        words += [word for name, it in others.items() if it for word in (f"--{name}", it)]
-        words += all_words({name.removesuffix("_"): it for name, it in asking.given.items()})
-        shared = ("apart", "look")
-        words += all_words({name: it for name, it in asking.numbers.items() if name in shared})
-        return shlex.join([*words, "--checked", FILE, "--out", "confidence.json"])
-
-
-def require_checkable(folder: Path) -> None:
-    """Raises `ToolError` for a store."""
-    if (store := store_of(folder)) is not None:
-        raise ToolError(
-            f"{store} is a store, and calibrate takes checked answers about a map in a folder: take a part of its file by olr-tools import --bbox"
+        words += [
+            it for name in given if given[name] != usual[name] for it in (f"--{name}", given[name])
+        ]
+        words += all_words(
+            {name.removesuffix("_"): numbers[name] for name in numbers if name not in Shown._fields}
         )
+        words += ["--differ", "D"] if lines < LEAST_REFERENCES else []
+        return shlex.join([*words, "--checked", FILE, "--out", "confidence.json"])
 
 
 def page_to_check(
     checking: Checking, asked: Map, given: MessageFile, wanted: int, tiles: str | None
 ) -> tuple[str, list[str]]:
     """Picks so many of the messages of a file, asks about them, and makes the page of HTML: with it, the lines of a summary. Raises `ToolError`,
-    also if too few can be checked."""
+    also for a store, and if too few can be checked."""
+    if (store := store_of(checking.folder)) is not None:
+        raise ToolError(
+            f"{store} is a store, and calibrate takes checked answers about a map in a folder: take a part of its file by olr-tools import --bbox"
+        )
     numbers, judging = checking.asking.numbers, checking.sure.judging
     messages = Asked(asked, given, within=Shown.of(numbers).within)
     pick = picked(messages, numbers, judging, wanted)
@@ -112,7 +104,15 @@ def page_to_check(
         "least": LEAST_CHECKED,
         "file": FILE,
         "kept": list(kept),
-        "rows": [_row(one.message, cells_of(one.message, kept)) for one in pick.sample],
+        "rows": [
+            {
+                "record": one.record,
+                "key": one.key,
+                "kept": cells_of(one, kept),
+                "start": start_of_line(one.key or ""),
+            }
+            for one, _ in pick.sample
+        ],
         "scenes": [_of_likeliest(scene) for scene in found.scenes if scene is not None],
         "lines": found.lines,
     }
@@ -120,13 +120,6 @@ def page_to_check(
     page = html_of(TEMPLATE, checking.title(), data | {"name": f"olr checked {name}"}, tiles)
     lines = (drawn, few, others, checking.asking.line(), checking.sure.note, f"then: {command}")
     return page, list(filter(None, lines))
-
-
-def _row(message: Message, cells: Sequence[Any]) -> dict[str, Any]:
-    """A message, and how the line about it begins in the file that is saved."""
-    assert message.key is not None
-    start = start_of_line(message.key)
-    return {"record": message.record, "key": message.key, "kept": cells, "start": start}
 
 
 def _of_likeliest(scene: Scene) -> Scene:
