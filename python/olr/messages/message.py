@@ -66,6 +66,8 @@ class Reading(NamedTuple):
     """Columns, members or elements of a record to hand on: `("all",)` for all of them."""
     base64: Base64 = "plain"
     """That of the references."""
+    shift: tuple[float, float] = (0.0, 0.0)
+    """By how many metres the points of the references are moved to the east and to the north, as `olr.model.reference.moved` does."""
 
     def names_columns(self) -> bool:
         """Whether a column or a member was named, so that the file has some."""

@@ -40,6 +40,7 @@ from olr.messages.packed import Unpackable
 from olr.messages.pieces import stream_of
 from olr.messages.tables import messages_of_table
 from olr.messages.texts import plain_base64, require_base64
+from olr.model.reference import moved
 
 WANTED = "name a file of messages, or ask olr about one reference"
 """What to do where there is no file."""
@@ -175,6 +176,10 @@ def _checked(
     base64 = reading.base64
     if base64 != "plain":
         messages = (one._replace(reference=plain_base64(one.reference, base64)) for one in messages)
+    if any(reading.shift):
+        messages = (
+            one._replace(reference=moved(one.reference, *reading.shift)) for one in messages
+        )
     return messages if reading.format is not None else with_references(messages, kind, name)
 
 

@@ -4,12 +4,13 @@ The rules are those of docs/specification/reference.md. The program alone says w
 """
 
 import binascii
+import math
 import struct
 from functools import cache
 
 from olr.model.answers import Reference, ReferencePoint
 from olr.model.questions import BLANKS, MOST_BYTES
-from olr.model.road_map import GREATEST_LAT, GREATEST_LON, Position
+from olr.model.road_map import GREATEST_LAT, GREATEST_LON, MICRODEGREE, Position
 
 MOST_POINTS = 32
 LINE, POINT_ALONG_LINE = 0x0B, 0x2B
@@ -18,6 +19,10 @@ FIRST, BETWEEN, LAST = 9, 7, 6
 """Bytes of a point."""
 POSITIVE, NEGATIVE = 0x40, 0x20
 """Of the last attribute: that there is such an offset."""
+STEP = 360e6 / 2**24
+"""Microdegrees between two coordinates that the first point may have."""
+MOST_STEPS = 2**23 - 1
+"""How many of them it has, to either side of 0."""
 
 Point = tuple[int, int, int]
 """Longitude and latitude in microdegrees, and the interval of the leg that begins there, or -1 at the last point of a reference."""
@@ -109,6 +114,23 @@ def bytes_of(text: str) -> bytes:
     except (binascii.Error, ValueError):
         pass
     return b""
+
+
+def moved(text: str, east: float, north: float) -> str:
+    """A reference whose points lie so many metres farther to the east and to the north, to the nearest step of its first point: 2.4 m to
+    the north, and less to the east where a degree has fewer metres. A text that is too short for a reference stays as it is.
+    """
+    content = bytearray(bytes_of(text))
+    if len(content) < 1 + FIRST + LAST:
+        return text
+    lon, lat = (int.from_bytes(content[at : at + 3], "big", signed=True) for at in (1, 4))
+    scale = math.cos(math.radians(absolute(lat) / 1e6))
+    for at, number, metres in ((1, lon, east / scale), (4, lat, north)):
+        there = number + round(metres / MICRODEGREE / STEP)
+        content[at : at + 3] = min(max(there, -MOST_STEPS), MOST_STEPS).to_bytes(
+            3, "big", signed=True
+        )
+    return binascii.b2a_base64(content, newline=False).decode()
 
 
 _POSITION = struct.Struct(">BbHbH")
