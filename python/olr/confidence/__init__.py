@@ -11,6 +11,7 @@
 | `parts` | trials in parts that differ in how different maps and references are; trials on a pair of maps |
 | `feed`, `likeness` | what the answers to a feed show, and which parts it looks like |
 | `fitting` | weights by answers to trials; their level by answers that somebody checked |
+| `shift` | whether the lines of a map lie to one side of the points of references |
 | `messages` | the messages of a feed, and checked answers |
 | `calibrating` | a confidence by trials, for `olr-tools calibrate` |
 | `choosing` | by which confidence answers are judged |

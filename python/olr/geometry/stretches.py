@@ -184,15 +184,15 @@ def _farthest(points: Floats, segments: Segments) -> float:
         block = points[first : first + POINTS]
         low, high = block.min(axis=0), block.max(axis=0)
         reach = float(np.hypot(*(high - low))) / 2
-        of_middle = _distances((low + high)[None] / 2, segments)[0]
+        of_middle = distances((low + high)[None] / 2, segments)[0]
         least = float(of_middle.min())
         if least + reach > greatest:
             near = segments.taken(of_middle <= least + 2 * reach)
-            greatest = max(greatest, float(_distances(block, near).min(axis=1).max()))
+            greatest = max(greatest, float(distances(block, near).min(axis=1).max()))
     return greatest
 
 
-def _distances(points: Floats, segments: Segments) -> Floats:
+def distances(points: Floats, segments: Segments) -> Floats:
     """The distance of each point, a row, from each segment."""
     between = points[:, None] - segments.starts[None]
     along = np.einsum("ijk,jk->ij", between, segments.directions)
