@@ -38,6 +38,7 @@ from olr.confidence.parts import (
     parts_of,
     parts_of_pair,
 )
+from olr.confidence.shift import Shift, shift_found
 from olr.confidence.terms import Terms
 from olr.confidence.weights import WEIGHTS, Differences, differences_of, probabilities
 from olr.errors import ToolError
@@ -102,8 +103,9 @@ def calibrated(folder: Path, drawing: Drawing, asking: Asking, wanted: Wanted) -
     road_map = read_map(folder)
     if wanted.pair is None:
         parts = list(parts_of(road_map, drawing, asking))
+        shift = _shift_of(folder, wanted.feed, asking) if wanted.feed else None
     else:
-        parts = list(parts_of_pair(folder, wanted.pair, drawing, asking))
+        parts, shift = parts_of_pair(folder, wanted.pair, drawing, asking)
     if not any(len(part.right) for part in parts):
         apart = "" if wanted.pair is None else ", or maps of the same region"
         raise ToolError(f"no trial reference has a place: give wider tolerances{apart}")
@@ -111,27 +113,35 @@ def calibrated(folder: Path, drawing: Drawing, asking: Asking, wanted: Wanted) -
     weights = fitted(trial_of(parts, chosen.weights))
     level = level_of(parts, chosen, weights)
     if chosen.said is not None and feed is not None and len(feed.costs):
-        shift = shift_to(weights, differences_of(feed), _are_first(feed), chosen.said.right)
-        weights = shifted(weights, shift)
+        more = shift_to(weights, differences_of(feed), _are_first(feed), chosen.said.right)
+        weights = shifted(weights, more)
     checked = _checked(folder, wanted, asking)
-    shift = 0.0 if checked is None else shift_of(weights, checked)
+    more = 0.0 if checked is None else shift_of(weights, checked)
     differs = None
     if wanted.pair is None:
         found = range_of(np.array([part.maps for part in parts]), chosen.weights)
         differs = Range(**_rounded(found._asdict()))
     about = _about(road_map, drawing, parts, chosen, wanted)
+    if shift is not None:
+        about["shift"] = {name: round(metres, 1) for name, metres in shift._asdict().items()}
     if checked is not None:
-        shift = round(shift, DECIMALS)
+        more = round(more, DECIMALS)
         right = int(checked.right.sum())
-        about["checked"] = {"answers": len(checked.right), "right": right, "shift": shift}
+        about["checked"] = {"answers": len(checked.right), "right": right, "shift": more}
     return Confidence(
         tolerances=dict(asking.tolerances),
         apart=asking.apart,
-        weights=_rounded(dict(zip(WEIGHTS, shifted(weights, shift)))),
+        weights=_rounded(dict(zip(WEIGHTS, shifted(weights, more)))),
         map_differs=differs,
         about=about,
         level=round(level, DECIMALS),
     )
+
+
+def _shift_of(folder: Path, texts: Sequence[str], asking: Asking) -> Shift | None:
+    """The shift of a map against that of a feed, if there is one for certain."""
+    with asking.map_of(folder) as asked:
+        return shift_found(asked, texts)
 
 
 def _require_folder(path: Path) -> None:

@@ -13,6 +13,7 @@ from olr.arrays import Floats, Integers
 from olr.asking.patience import PATIENCE
 from olr.client.map_client import Map
 from olr.confidence.fitting import NONE
+from olr.confidence.shift import Shift, shift_found
 from olr.confidence.terms import Terms, terms_of
 from olr.geometry.agreement import agreement
 from olr.geometry.network import Network
@@ -59,6 +60,8 @@ MOST_LINES = 20_000
 """Of the map of a part: a larger one is cut around one of its nodes."""
 ACROSS = 15.0
 """Metres that roads of a pair of maps lie apart at most, where they are one."""
+EXACT = 300
+"""Exact references to paths of the sender's map by which it is found whether the other one is shifted."""
 
 
 class Asking(NamedTuple):
@@ -128,6 +131,14 @@ class Drawing(NamedTuple):
                 advance(behind - first)
 
 
+class OfPair(NamedTuple):
+    """Trials on a pair of maps."""
+
+    parts: list[Part]
+    shift: Shift | None
+    """Of the map that is asked against the sender's: None if it isn't certain that there is one."""
+
+
 class _Tried(NamedTuple):
     """References to known paths."""
 
@@ -162,14 +173,17 @@ def parts_of(road_map: RoadMap, drawing: Drawing, asking: Asking) -> Iterator[Pa
         yield Part(maps, references, found.terms, right_places(found.terms, are_right))
 
 
-def parts_of_pair(folder: Path, sender: Path, drawing: Drawing, asking: Asking) -> Iterator[Part]:
-    """Trials that are drawn on the map of a sender, and asked of the map in a folder. Whether a place is right is told by geometry. How
-    different the maps are isn't said: it is what it is. Raises `ToolError` if a map can't be read, or has too few paths.
-    """
+def parts_of_pair(folder: Path, sender: Path, drawing: Drawing, asking: Asking) -> OfPair:
+    """Trials that are drawn on the map of a sender, and asked of the map in a folder. Whether a place is right is told by geometry, as if
+    the maps weren't shifted. How different the maps are isn't said: it is what it is. Raises `ToolError` if a map can't be read, or has too
+    few paths."""
+    parts: list[Part] = []
     road_map = read_map(sender)
     paths = Paths(road_map, drawing.likeness or Usual())
     graph, geometry = Graph(road_map, Roads(road_map)), Network.read(sender)
     with asking.map_of(folder) as asked:
+        exact = islice(paths.drawn(graph, random.Random(f"{drawing.seed} shift")), EXACT)
+        shift = shift_found(asked, [text_of(one.points) for one in exact])
         for count, draws in drawing.each("trial references"):
             references = draws.uniform(0, GREATEST_SPREAD)
             tried = _tried(paths, graph, count, references, draws)
@@ -178,11 +192,13 @@ def parts_of_pair(folder: Path, sender: Path, drawing: Drawing, asking: Asking) 
             lines = asked.network().polylines(arrays.pieces, arrays.counts)
             places = lines.each()
             true = [points_of(path, geometry) for path in tried.paths]
+            true = true if shift is None else list(map(shift.applied, true))
             are_right = [
                 is_right_by_geometry(true[owner], place)
                 for owner, place in zip(found.terms.owners().tolist(), places)
             ]
-            yield Part(0.0, references, found.terms, right_places(found.terms, are_right))
+            parts.append(Part(0.0, references, found.terms, right_places(found.terms, are_right)))
+    return OfPair(parts, shift)
 
 
 def _tried(
