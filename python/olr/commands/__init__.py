@@ -4,4 +4,5 @@
 |---|---|
 | `options` | the options that several commands have |
 | `import_options` | those that the commands of imports have |
+| `shifting` | the option `--shift`, and what is said of shifts |
 """

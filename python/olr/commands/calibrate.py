@@ -5,11 +5,13 @@ from collections.abc import Iterator
 from pathlib import Path
 
 from olr.commands import options
+from olr.commands.shifting import ADVICE
 from olr.confidence.calibrating import Wanted, calibrated
 from olr.confidence.confidence import Confidence
 from olr.confidence.contents import text_of
 from olr.confidence.messages import Feed, read_checked, read_line_references
 from olr.confidence.parts import GREATEST_DIFFERENCE, Asking, Drawing
+from olr.confidence.shift import Shift
 from olr.confidence.weights import WEIGHTS
 from olr.errors import ToolError
 from olr.messages.message import Reading
@@ -145,6 +147,9 @@ def _lines(confidence: Confidence) -> Iterator[str]:
     yield f"parts that count: {about['counting']:.0f} of {len(about['parts']):,}"
     if outside := (about["feed"] or {}).get("outside"):
         yield f"unlike all trials, so that the level is less certain: {', '.join(outside)}"
+    if about.get("shift"):
+        so = "true paths are moved so before they are compared" if about["pair"] else ADVICE
+        yield f"{Shift(**about['shift']).sentence()}: {so}"
     if checked is not None:
         yield (
             f"checked: {checked['right']:,} of {checked['answers']:,} right, which shifts \"none of these\" by "

@@ -11,8 +11,13 @@ from olr.checking.lengths import lines_round_the_earth, look_at_lengths
 from olr.checking.map_arrays import MapArrays, arrays_of
 from olr.checking.network import look_at_network
 from olr.checking.remarks import NAMES, Limits
+from olr.client.map_client import Map
 from olr.commands import options
 from olr.commands.limits import PASSED, end_by
+from olr.commands.shifting import ADVICE
+from olr.confidence.messages import read_line_references
+from olr.confidence.shift import shift_found
+from olr.messages.message import Reading
 from olr.model.map_folder import store_of
 from olr.regions.scratch import scratch_map
 from olr.regions.store import Store
@@ -54,7 +59,21 @@ class Allowed(click.ParamType):
     help=f"End with status {PASSED} if there are more than N of WHAT, by default more than none, or than one of networks and parts: "
     f"{', '.join(NAMES)}. May be given several times. By default any number of them may be.",
 )
-def command(folder: Path, most: int, allowed: tuple[tuple[str, int], ...]) -> None:
+@options.file_option(
+    "--with",
+    "MESSAGES",
+    "A file of messages, as match reads it: it is said whether the map is shifted against their points, by the likeliest places of up to "
+    "2,000 line references. By default nothing is asked.",
+    "messages",
+)
+@options.reading_options
+def command(
+    folder: Path,
+    most: int,
+    allowed: tuple[tuple[str, int], ...],
+    messages: Path | None,
+    reading: Reading,
+) -> None:
     """Find what is wrong with a map: the nodes.csv, lines.csv and bans.csv of the folder DIR, or a STORE of olr-tools regions.
 
     Each fault is a line that begins as olr reports it, and the first one is that which olr stops at. The status is 0 if there is no
@@ -63,6 +82,9 @@ def command(folder: Path, most: int, allowed: tuple[tuple[str, int], ...]) -> No
     lines. The records of a store were checked when it was made: it is seen whether they are as they were written, and its map is
     described if it isn't beyond the limits of olr.
     """
+    if messages is None and reading != Reading():
+        raise click.UsageError("--format, --ref, --key and --base64 are for --with")
+    feed = None if messages is None else read_line_references(messages, reading, {}, 1)
     store = store_of(folder)
     limits = Limits(dict(allowed))
     lines = _of_folder(folder, most) if store is None else _of_store(store, most, limits)
@@ -73,7 +95,16 @@ def command(folder: Path, most: int, allowed: tuple[tuple[str, int], ...]) -> No
         last = last or (line if line.startswith("faults ") else "")
     if last != "faults 0":
         raise SystemExit(1)
+    if feed is not None:
+        click.echo(_shift_line(folder, feed.texts()))
     end_by(limits.passed())
+
+
+def _shift_line(folder: Path, texts: list[str]) -> str:
+    """What is said of a shift of a map against references. Raises `ToolError`."""
+    with Map.of_folder(folder) as asked:
+        shift = shift_found(asked, texts)
+    return "no shift is certain" if shift is None else f"{shift.sentence()}: {ADVICE}"
 
 
 def _of_folder(folder: Path, most: int) -> Iterator[str]:

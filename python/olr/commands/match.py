@@ -9,6 +9,7 @@ from typing import Any
 
 from olr.client.map_client import Map
 from olr.commands import options
+from olr.commands.shifting import Wanted, line_of, shift_for, shift_option
 from olr.confidence.choosing import Chosen, cut_off_line, judging_for
 from olr.confidence.judged import Judging
 from olr.matching.asking import Asked
@@ -51,6 +52,7 @@ from olr.model.questions import NUMBERS, Setting, What, listing
 @options.patience_option()
 @options.reading_options
 @options.keep_option
+@shift_option
 @options.out_option(
     "OUT",
     "The file to write: .gpkg, .geojson, or .csv, which has no geometries. Folders above are made as needed.",
@@ -75,6 +77,7 @@ def command(
     confidence: Path | None,
     patience: float,
     reading: Reading,
+    shift: Wanted,
     out: Path,
     pieces: Path | None,
     force: bool,
@@ -97,6 +100,8 @@ def command(
         require_writable(output.file, where, inputs)
     with Map.of_folder(folder, **asking.tolerances, patience=patience) as asked:
         lacking = Lacking(asked, asking.other())
+        found = shift_for(asked, file, reading, shift)
+        reading = reading._replace(shift=found or (0.0, 0.0))
         with ExitStack() as stack:
             within = None if sure.judging.shown is None else sure.judging.shown.within
             nowhere_to = None if why else lacking
@@ -129,7 +134,13 @@ def command(
         click.echo(f"{output.file}: {sink.rows:,} rows")
     for line in messages.summary():
         click.echo(line)
-    for more in (asking.line(), nowhere, cut_off_line(messages.cut_off), sure.note):
+    for more in (
+        asking.line(),
+        line_of(shift, found),
+        nowhere,
+        cut_off_line(messages.cut_off),
+        sure.note,
+    ):
         if more:
             click.echo(more)
 

@@ -6,8 +6,10 @@ from pathlib import Path
 
 from olr.client.map_client import Map
 from olr.commands import options
+from olr.commands.shifting import ADVICE
 from olr.confidence.choosing import judging_for
 from olr.confidence.messages import LEAST_CHECKED
+from olr.confidence.shift import shift_found
 from olr.confidence.shown import Shown
 from olr.matching.asking import Asked
 from olr.matching.columns import ANSWERS
@@ -93,6 +95,7 @@ def command(
         counted = count(questions, asked, asking.numbers, rows, sure.judging, lacking)
         found = rows_of(counted.sample, asked, asking.numbers, sure.judging)
         drawn = [one.message for one in counted.sample]
+        shift = shift_found(asked, [one.reference for one in drawn])
         made = Making(folder, confidence, tiles)
         answering = page_for_list(asked, made, drawn) if live else None
     kept = kept_columns(given.kept, ANSWERS)
@@ -104,11 +107,12 @@ def command(
         if scene is not None:
             add_command(scene, name_for_program(folder), asking.all_numbers())
     expected = expectations(counted.places, sure, confidence)
+    seems = [] if shift is None else [f"{shift.sentence()}: {ADVICE}"]
     about = About(
         Path(name_of(messages)).name,
         folder.resolve().name,
         asking.text(),
-        [sentence(text) for text in expected or [sure.note] if text],
+        [sentence(text) for text in [*(expected or [sure.note]), *seems] if text],
         about_probabilities(sure, confidence),
         address_of(asking, None) if answering else "",
     )
@@ -120,6 +124,6 @@ def command(
     click.echo(f"{file}: {len(found.rows):,} rows of {counted.places.references():,} references")
     of_live = answering.line(len(content), len(drawn)) if answering else ""
     more = (asking.line(), of_live, lacking.line(), *remarks(counted.places), sure.note)
-    for line in (*expected, *questions.summary(), *more):
+    for line in (*expected, *seems, *questions.summary(), *more):
         if line:
             click.echo(line)
