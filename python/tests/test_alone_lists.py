@@ -237,7 +237,7 @@ def scripts(browser: Browser) -> Browser:
 
 def given(case: Case) -> list[str | None]:
     """A case as the script takes it."""
-    data, (format, ref, key, _, base) = case
+    data, (format, ref, key, _, base, _) = case
     return [base64.b64encode(data).decode(), format, ref, key, base]
 
 
