@@ -2,6 +2,7 @@
 """Measures what is found of shifts between maps, and prints the tables of docs/CONFIDENCE.md about them.
 
     bench/shift.py --program PATH [--draws 10] [--references 300] [--trials 2000] [--pairs 2] [--seed 21] [--jobs 2] [--maps tempe town]
+        [--kinds KIND ..]
 
 Maps, senders and kinds are those of confidence.py and kinds.py; other shifts are in other directions. For each kind it draws feeds, and says
 by how many metres what was found is off, and how many first places are right as references are, and moved by what was found. For the first
@@ -40,7 +41,7 @@ from olr.trials.paths import Paths
 from olr.trials.rightness import is_right
 from olr.trials.roads import Roads
 
-METRES = (5, 10, 20, 40)
+METRES = (5, 10, 20, 40, 60, 100)
 WITHOUT = ("own", "vendor", "older", "habits", "merged", "segments", "added", "missing")
 OF_PAIR = ("own", "vendor", "shifted by 20 m")
 
@@ -159,6 +160,7 @@ def main():
     parser.add_argument("--seed", type=int, default=21)
     parser.add_argument("--jobs", type=int, default=2)
     parser.add_argument("--maps", nargs="+", default=["tempe", "town"])
+    parser.add_argument("--kinds", nargs="+", default=list(CASES), help="such as: own 'shifted by 20 m'")
     asked = parser.parse_args()
     os.environ["OLR_PROGRAM"] = os.path.abspath(asked.program)
     with tempfile.TemporaryDirectory(prefix="olr-shift-") as place:
@@ -168,7 +170,7 @@ def main():
         cases = [
             (name, kind, draw, asked, scratch)
             for name in asked.maps
-            for kind in CASES
+            for kind in asked.kinds
             for draw in range(asked.draws)
         ]
         with ProcessPoolExecutor(asked.jobs) as pool:

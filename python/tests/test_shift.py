@@ -111,13 +111,15 @@ def test_a_shift_that_lines_show(true: tuple[float, float]) -> None:
 
 
 def test_no_shift_is_certain() -> None:
-    """Of too few points, of lines in one direction, of a shift of less than three metres, and of one that may be due to chance."""
+    """Of too few points, of lines in one direction, of a shift of less than three metres, of points that are off by much besides, and of what may be due to chance."""
     assert fitted(*asides((14, -5), 50, 3, 2)) is not None
     assert fitted(*asides((14, -5), 49, 3, 2)) is None
     assert fitted(*asides((14, -5), 400, 3, 2, directions=1.2)) is not None
     assert fitted(*asides((14, -5), 400, 3, 2, directions=0.6)) is None
     assert fitted(*asides((0, 3.3), 4000, 3, 2)) is not None
     assert fitted(*asides((0, 2.7), 4000, 3, 2)) is None
+    assert fitted(*asides((20, 0), 4000, 11, 2)) is not None
+    assert fitted(*asides((20, 0), 4000, 13, 2)) is None
     assert all(fitted(*asides((0, 4), 60, 25, seed)) is None for seed in range(5))
     assert all(fitted(*asides((0, 0), 60, 25, seed)) is None for seed in range(200))
     assert fitted(np.zeros((0, 2)), np.zeros(0)) is None
@@ -150,6 +152,8 @@ def test_what_is_found_of_maps(here: Path, tempe: Path, texts: list[str]) -> Non
         assert shift_found(asked, moved_so) is None
     with Map.of_folder(tempe) as asked:
         assert shift_found(asked, texts) is None
+        # Farther away than lines are looked for.
+        assert shift_found(asked, [moved(text, 80, 80) for text in texts]) is None
 
 
 @pytest.mark.parametrize("text", [REFERENCE, POINT_ALONG_LINE])
@@ -174,7 +178,7 @@ def test_texts_that_are_not_moved() -> None:
     for text in ("", "?", "CwVF", "CwVF/yN2yRpnBAFUAAgbpwYBAf9kK0F"):
         assert moved(text, 20, 20) == text
     edge = first_position(moved(REFERENCE, 180 * 111_320.0, -16.0))
-    assert edge == (180_000_000 - 32, 49_871_246 - 150)
+    assert edge == (180_000_000 - 32, 49_871_095)
     assert moved(f" {REFERENCE}\n", 0, 0) == REFERENCE
 
 
@@ -320,9 +324,12 @@ def test_what_is_refused(
 def test_standard_input(
     here: Path, feed: Path, tmp_path: Path, capsys: pytest.CaptureFixture[str]
 ) -> None:
-    """It can't be read twice, so `auto` is refused before anything is asked."""
-    out = tmp_path / "out.csv"
-    words = ["match", "-", "--map", str(here), "--out", str(out), "--shift", "auto"]
-    assert run(words) == 2
-    assert "--shift auto reads FILE twice: name a file" in capsys.readouterr().err
+    """It can't be read twice, so `auto` is refused before anything is asked. A file that isn't there is an error as ever."""
+    out, pipe = tmp_path / "out.csv", tmp_path / "pipe"
+    os.mkfifo(pipe)
+    cases = {"-": "--shift auto reads FILE twice: name a file", str(tmp_path / "none"): "No such"}
+    for file, error in {**cases, str(pipe): cases["-"]}.items():
+        words = ["match", file, "--map", str(here), "--out", str(out), "--shift", "auto"]
+        assert run(words) == (1 if "No such" in error else 2)
+        assert error in capsys.readouterr().err
     assert not out.exists()

@@ -9,7 +9,7 @@ from olr.client.map_client import Map
 from olr.confidence.messages import read_line_references
 from olr.confidence.shift import Shift, shift_found
 from olr.messages.message import Reading
-from olr.messages.opening import is_read_twice
+from olr.messages.opening import STANDARD_INPUT, is_read_twice
 
 AUTO: Literal["auto"] = "auto"
 Wanted = Shift | Literal["auto"] | None
@@ -54,7 +54,7 @@ def shift_for(asked: Map, file: Path, reading: Reading, wanted: Wanted) -> Shift
     where that is needed, and `ToolError`."""
     if wanted != AUTO:
         return wanted
-    if not is_read_twice(file):
+    if not is_read_twice(file) and (file == STANDARD_INPUT or file.exists()):
         raise click.UsageError(
             f"--shift {AUTO} reads FILE twice: name a file, or give EAST,NORTH in metres"
         )

@@ -19,12 +19,15 @@ from olr.model.reference import read_points
 
 LIKELIEST: dict[str, Setting] = {**LIST, "most": 1, "detail": False, "shape": True}
 """How places are asked for of which the likeliest one alone counts."""
-LEAST_POINTS = 50
-"""Fewer points say too little."""
+LEAST_POINTS, LEAST_SHARE = 50, 1 / 3
+"""Fewer points say too little, and so do references of which a smaller share has a place."""
 VARIED = 0.1
 """The share of points on lines across any direction at least: 0.5 where all directions are as frequent, 0 where all lines are parallel."""
 LEAST, CERTAIN = 3.0, 5.0
 """A shift of fewer metres may be due to how senders round their points, and one of fewer standard errors to chance."""
+GREATEST_SPREAD = 12.0
+"""Metres by which points are off besides, as a standard deviation: beyond it most places are wrong, as where a shift is greater than the
+radius within which lines are looked for."""
 ROUNDING = 1.0
 """Metres by which points are off at least, since a reference has them in steps."""
 WIDTH, ROUNDS = 4.685, 40
@@ -57,9 +60,14 @@ class Shift(NamedTuple):
 def shift_found(asked: Map, texts: Sequence[str]) -> Shift | None:
     """The shift of a map against that of references, by their likeliest places. None if it isn't certain that there is one. Raises
     `ToolError`."""
-    answers = zip(asked.answers("places", texts, **LIKELIEST), texts)
-    found = [_asides(one, text) for one, text in answers if isinstance(one, Places) and one.places]
-    return fitted(*(np.concatenate(some) for some in zip(*found))) if found else None
+    both = zip(asked.answers("places", texts, **LIKELIEST), texts)
+    answers = [
+        _asides(one, text) if one.places else None for one, text in both if isinstance(one, Places)
+    ]
+    found = list(filter(None, answers))
+    if not found or len(found) < LEAST_SHARE * len(answers):
+        return None
+    return fitted(*(np.concatenate(some) for some in zip(*found)))
 
 
 def _asides(answer: Places, text: str) -> tuple[Floats, Floats]:
@@ -79,7 +87,8 @@ def _asides(answer: Places, text: str) -> tuple[Floats, Floats]:
 
 def fitted(across: Floats, asides: Floats) -> Shift | None:
     """The shift that lines show which lie so far aside of points, in metres, each in a direction across it, of the length 1. None if they are
-    too few, hardly vary in their directions, or don't show for certain that there is one."""
+    too few, hardly vary in their directions, fit no shift, or don't show for certain that there is one.
+    """
     count = len(asides)
     if count < LEAST_POINTS or np.linalg.eigvalsh(across.T @ across)[0] < VARIED * count:
         return None
@@ -88,8 +97,8 @@ def fitted(across: Floats, asides: Floats) -> Shift | None:
         weighted = across * weights[:, None]
         shift = np.linalg.solve(weighted.T @ across, weighted.T @ asides)
         off = asides - across @ shift
-        width = WIDTH * max(1.4826 * float(np.median(np.abs(off))), ROUNDING)
-        squares: Floats = np.minimum((off / width) ** 2, 1.0)
+        spread = max(1.4826 * float(np.median(np.abs(off))), ROUNDING)
+        squares: Floats = np.minimum((off / (WIDTH * spread)) ** 2, 1.0)
         weights = (1 - squares) ** 2
     # The standard error of such an estimate, along the shift.
     slopes = across * ((1 - squares) * (1 - 5 * squares))[:, None]
@@ -97,4 +106,5 @@ def fitted(across: Floats, asides: Floats) -> Shift | None:
     size = float(np.hypot(*shift))
     back = scores @ np.linalg.solve(slopes.T @ across, shift)
     error = math.sqrt(float(back @ back)) / max(size, 1e-9)
-    return Shift(*shift.tolist()) if size >= max(LEAST, CERTAIN * error) else None
+    is_certain = size >= max(LEAST, CERTAIN * error) and spread <= GREATEST_SPREAD
+    return Shift(*shift.tolist()) if is_certain else None
