@@ -162,7 +162,7 @@ def tried(case):
         drawing = Drawing(asked.trials, SEED + draw + 100 * seed, LikeMessages(references))
         with patch.multiple("olr.confidence.parts", ALIKE=ALIKE, **made.without):
             confidence = calibrated(folders[1], drawing, asking, wanted)
-        weights = np.array([confidence.weights[name] for name in WEIGHTS])
+        weights = np.array([float(confidence.weights[name]) for name in WEIGHTS])
         again = shifted(weights, shift_of(weights, some))
         told, later = (probabilities(it, differences).of_place[first] for it in (weights, again))
         for number, row in enumerate(with_places):

@@ -2,7 +2,7 @@
 
 import numpy as np
 from collections.abc import Mapping, Sequence
-from math import log
+from math import log2
 from pathlib import Path
 from typing import Any
 
@@ -10,7 +10,7 @@ from olr.confidence.confidence import Confidence
 from olr.confidence.contents import text_of
 from olr.confidence.likeness import Range
 from olr.confidence.terms import Terms
-from olr.confidence.weights import WEIGHTS
+from olr.confidence.weights import ORDER, WEIGHTS
 from olr.model.profiles import PROGRAM, tolerances_of
 from olr.model.questions import NUMBERS
 
@@ -25,7 +25,7 @@ def write_confidence(
     differs: Range | None = None,
     feed: Mapping[str, Any] | None = None,
     profile: str = PROGRAM,
-    **weights: float,
+    **weights: int,
 ) -> Path:
     """Writes a confidence for the tolerances of a profile. Without weights all places of an answer are as probable by it: of `n` places each
     has a probability of 1 / (n + `OF_NONE`)."""
@@ -33,7 +33,7 @@ def write_confidence(
     confidence = Confidence(
         tolerances=tolerances_of(profile),
         apart=NUMBERS["places"]["apart"].default,
-        weights={**dict.fromkeys(WEIGHTS, 0.0), "none": log(OF_NONE), **weights},
+        weights={**dict.fromkeys(WEIGHTS, 0), "none": round(log2(OF_NONE) * ORDER), **weights},
         map_differs=differs,
         about={**about, "feed": feed, "differ": None},
     )
@@ -49,13 +49,14 @@ def made_terms(sizes: Sequence[int], counts: Sequence[int], **others: Any) -> Te
         "costs": np.zeros(places, int),
         "turns_back": np.zeros(places, np.bool_),
         "lines": np.full(places, 1),
-        "from_end": np.zeros(points),
-        "distance": np.zeros(points),
+        "end": np.zeros(points, int),
+        "distance": np.zeros(points, int),
         "sectors": np.zeros(points, int),
         "classes": np.zeros(points, int),
         "other_form": np.zeros(points, np.bool_),
-        "told": np.full(legs, 500.0),
-        "length": np.full(legs, 470.0),
+        "least": np.full(legs, 4414),
+        "greatest": np.full(legs, 4999),
+        "length": np.full(legs, 4700),
     }
     given = {name: np.array(value) for name, value in others.items()}
     return Terms(sizes=np.array(sizes), counts=np.array(counts, int), **usual | given)

@@ -149,14 +149,15 @@ def file(request: pytest.FixtureRequest, tmp_path_factory: pytest.TempPathFactor
         made,
         Range(0.4, 0.1, 0.9),
         profile=FEED,
-        distance=0.11,
-        direction=0.7,
-        length=0.013,
-        behind=0.021,
-        turning_back=1.3,
-        none=-1.7,
-        none_points=0.31,
-        none_lines=0.43,
+        distance=432_101,
+        direction=7_000_001,
+        leg=234_567,
+        behind=17_003,
+        turning_back=31_000_000,
+        none=-98_765_432,
+        none_points=7_654_321,
+        none_lines=3_210_987,
+        none_length=123_456,
     )
 
 

@@ -112,7 +112,8 @@ def test_how_maps_differ(alone: Scripts) -> None:
     differs = Range(0.05, 0.0, 2.25)
     abouts: list[Json] = [{}, {"feed": {}}, {"feed": {"statistics": 1}, "differ": 2}, {"feed": "x"}]
     for about in [*abouts, {"feed": {"statistics": {}}}, {"feed": None, "differ": None}]:
-        given = {"map_differs": differs._asdict(), "about": about}
+        of_maps = {name: round(1000 * value) for name, value in differs._asdict().items()}
+        given = {"map_differs": of_maps, "about": about}
         found = said(alone, "differsText", given)
         assert found == differs_text(Confidence({}, 0, {}, differs, about))
     assert said(alone, "differsText", {"map_differs": None, "about": {}}) == ""

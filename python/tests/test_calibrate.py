@@ -29,7 +29,7 @@ from olr.confidence.parts import (
     parts_of,
     right_places,
 )
-from olr.confidence.weights import WEIGHTS
+from olr.confidence.weights import ORDER, WEIGHTS
 from olr.counts import Counts
 from olr.errors import ToolError
 from olr.messages.message import Reading
@@ -188,7 +188,7 @@ def test_what_is_told_is_seen(sender: str, name: str, request: pytest.FixtureReq
     else:
         assert seen > 0.9 and differs.low == 0 and differs.value < 0.5
     weights = feed.confidence.weights
-    assert all(weights[it] >= 0 for it, weight in WEIGHTS.items() if weight.is_bounded)
+    assert all(weights[it] >= 0 for it, weight in WEIGHTS.items() if weight.least == 0)
     assert 0 <= feed.confidence.level < 0.15
 
 
@@ -240,10 +240,10 @@ def test_what_the_command_says(
     counting = re.fullmatch("parts that count: ([3-5]) of 5", shown[2])
     assert counting is not None and round(made.about["counting"]) == int(counting[1])
     assert shown[3:-1] == [
-        f"weight {name}: {made.weights[name]:.4g} for {weight.unit}"
+        f"weight {name}: {made.weights[name] / ORDER:.4g} for {weight.unit}"
         for name, weight in WEIGHTS.items()
     ]
-    assert len(WEIGHTS) == 8 and shown[-1].startswith("asked with: radius 60 m")
+    assert len(WEIGHTS) == 9 and shown[-1].startswith("asked with: radius 60 m")
     assert made.others({**tolerances_of(FEED), "radius": 60}, 300) == ""
     about = made.about
     assert (about["references"], about["drawn"], about["seed"], about["right"]) == (
@@ -336,7 +336,7 @@ def test_checked_answers(
     about = after.about["checked"]
     assert (about["answers"], about["right"]) == (30, 0) and about["shift"] > 1
     shift = after.weights["none"] - before.weights["none"]
-    assert shift == pytest.approx(about["shift"], abs=1e-5)
+    assert shift / ORDER == pytest.approx(about["shift"], abs=1e-5)
     assert 'checked: 0 of 30 right, which shifts "none of these" by +' in capsys.readouterr().out
 
 

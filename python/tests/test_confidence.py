@@ -17,7 +17,16 @@ from olr.confidence.calibrating import Chosen, Said, level_of
 from olr.confidence.confidence import Confidence
 from olr.confidence.contents import text_of
 from olr.confidence.feed import statistics_of
-from olr.confidence.fitting import NONE, Checked, Trial, fitted, shift_of, shift_to, shifted
+from olr.confidence.fitting import (
+    NONE,
+    Checked,
+    Trial,
+    fitted,
+    shift_of,
+    shift_to,
+    shifted,
+    whole,
+)
 from olr.confidence.judged import Judging, judged
 from olr.confidence.likeness import (
     RIDGE,
@@ -32,6 +41,7 @@ from olr.confidence.parts import Part, right_places
 from olr.confidence.weights import (
     OF_NONE,
     OF_PLACE,
+    ORDER,
     WEIGHTS,
     Differences,
     differences_of,
@@ -49,7 +59,8 @@ ROADWORKS = "CwVGnSN2zhvHCgDX/tIzAw=="
 """Without the town's bans two places."""
 USUAL = {name: number.default for name, number in TOLERANCES.items()}
 ABOUT = dict.fromkeys(("map", "parts", "program", "references", "right", "seed"), 0)
-ROUND = dict(zip(WEIGHTS, (0.01, 0.2, 0.05, 0.1, 2.0, -4.0, -0.5, 1.0)))
+ORDERS = np.array([0.04, 0.25, 0.02, 0.005, 4.0, -10.0, 0.75, 0.5, 0.03125])
+ROUND = whole(ORDERS * ORDER)
 
 
 def confidence_of(**others: Any) -> Confidence:
@@ -59,15 +70,15 @@ def confidence_of(**others: Any) -> Confidence:
 
 
 def test_probabilities_by_hand() -> None:
-    """Two answers: one with two places, of which the second is 10 points behind, and one with a place that turns back."""
+    """Two answers: one with two places, of which the second is 400 thirtieths of a point behind, and one with a place that turns back."""
     differences = Differences(
         np.array([2, 1]),
-        np.array([[0, 0, 0, 0, 0], [0, 0, 0, 10, 0], [0, 0, 0, 0, 1.0]]),
-        np.array([[1, 0, math.log(3)], [1, 1, 0.0]]),
+        np.array([[0, 0, 0, 0, 0], [0, 0, 0, 400, 0], [0, 0, 0, 0, 1.0]]),
+        np.array([[1, 0, 6, 32], [1, -1, 0.0, 0]]),
     )
-    told = probabilities(np.array(list(ROUND.values())), differences)
-    one = [1.0, math.exp(-1), math.exp(-4) * 3]
-    other = [math.exp(-2), math.exp(-4.5)]
+    told = probabilities(ORDERS * ORDER, differences)
+    one = [1.0, 2**-2, 2 ** (-10 + 3 + 1)]
+    other = [2**-4, 2**-10.75]
     assert told.of_place.tolist() == pytest.approx(
         [one[0] / sum(one), one[1] / sum(one), other[0] / sum(other)]
     )
@@ -76,22 +87,35 @@ def test_probabilities_by_hand() -> None:
 
 def test_what_weights_count() -> None:
     """An answer with two places of three points, of which the second one costs 20 points more; one without; and one with a place of two points
-    on one line, which is a tenth longer than is told."""
+    on one line, which is a tenth longer than is told. Of points and legs the worst one counts, and distances in thousandths of the route.
+    """
     terms = made_terms(
         [2, 0, 1],
         [3, 3, 2],
         costs=[300, 900, 150],
         turns_back=[True, False, False],
         lines=[9, 4, 1],
-        distance=np.arange(1.0, 9.0),
+        distance=[100, 300, 200, 500, 400, 700, 600, 800],
         sectors=[0, 0, 0, 1, 0, 2, 0, 0],
-        length=[490, 490, 490, 490, 550.0],
+        length=[4900, 4900, 4308, 5099, 5500],
     )
     found = differences_of(terms)
     assert found.sizes.tolist() == [2, 1]
-    expected = [[6, 0, 0, 0, 1], [15, 3, 0, 20, 0], [15, 0, 10, 0, 0]]
-    assert found.of_place == pytest.approx(np.array(expected, dtype=float))
-    assert found.of_none == pytest.approx(np.array([[1, 1, math.log(9)], [1, 0, 0]]))
+    expected = [[3, 0, 0, 0, 1], [7, 2, 21, 600, 0], [14, 0, 100, 0, 0]]
+    assert found.of_place.tolist() == expected
+    assert found.of_none.tolist() == [[1, -1, 12, 98], [1, 0, 4, 74]]
+
+
+def test_a_route_without_a_length() -> None:
+    """Then a point's distance is told as of a route of a decimetre."""
+    terms = made_terms([1], [2], distance=[7, 5], least=[0], length=[0])
+    assert differences_of(terms).of_place.tolist() == [[700, 0, 0, 0, 0]]
+
+
+def test_weights_of_a_file() -> None:
+    """They are rounded, and within what is allowed."""
+    found = whole(np.array([1.6, -3, 2.0**40, 0, 0, -(2.0**40), 0, 2.4, 0]))
+    assert list(found.values()) == [2, 0, 2**28, 0, 0, -(2**32), 0, 2, 0]
 
 
 def test_the_right_place_of_an_answer() -> None:
@@ -111,7 +135,7 @@ def part_of(count: int, right: int) -> Part:
 def test_what_is_seen_of_answers_without_a_place() -> None:
     """That none has one, and nothing else."""
     terms = made_terms([0, 0, 0], [])
-    without, *others = statistics_of(terms, np.array(list(ROUND.values()))).values()
+    without, *others = statistics_of(terms, ORDERS * ORDER).values()
     assert (without, set(others)) == (1, {0})
 
 
@@ -150,24 +174,23 @@ def test_they_add_up_to_1_however_large_weights_are() -> None:
         draws.uniform(0, 1000, (int(sizes.sum()), len(OF_PLACE))),
         draws.uniform(0, 10, (50, len(OF_NONE))),
     )
-    for scale in (0.001, 1.0, 1e4):
+    for scale in (1e4, 1e7, 2.0**28):
         told = probabilities(draws.uniform(0, scale, len(WEIGHTS)), differences)
         sums = np.add.reduceat(told.of_place, differences.starts()) + told.of_none
         assert sums == pytest.approx(1) and (told.of_place >= 0).all()
 
 
 def drawn_trial(weights: Floats, count: int) -> Trial:
-    """Answers whose right places are drawn by weights."""
+    """Answers whose right places are drawn by weights, in binary orders."""
     draws = np.random.default_rng(2)
     sizes = draws.integers(1, 5, count)
     of_place = draws.gamma(2, 1, (int(sizes.sum()), len(OF_PLACE)))
-    of_place *= (10, 1, 4, 8, 0)
+    of_place *= (10, 1, 20, 120, 0)
     of_place[:, 4] = draws.random(len(of_place)) < 0.1
-    of_none = np.stack(
-        [np.ones(count), draws.integers(0, 4, count), draws.gamma(4, 0.5, count)], axis=1
-    ).astype(np.float64)
-    differences = Differences(sizes, of_place, of_none)
-    told = probabilities(weights, differences)
+    of_none = [np.ones(count), -draws.integers(0, 4, count)]
+    of_none += [draws.gamma(4, 3, count), draws.gamma(8, 15, count)]
+    differences = Differences(sizes, of_place, np.stack(of_none, axis=1).astype(np.float64))
+    told = probabilities(weights * ORDER, differences)
     right = np.full(count, NONE)
     for number, (start, size) in enumerate(zip(differences.starts(), sizes)):
         chances = [*told.of_place[start : start + size], told.of_none[number]]
@@ -177,24 +200,20 @@ def drawn_trial(weights: Floats, count: int) -> Trial:
 
 
 def test_weights_that_answers_were_drawn_by_are_found() -> None:
-    weights = np.array(list(ROUND.values()))
-    found = fitted(drawn_trial(weights, 20_000))
-    assert found == pytest.approx(weights, rel=0.25, abs=0.02)
+    found = fitted(drawn_trial(ORDERS, 20_000)) / ORDER
+    assert found == pytest.approx(ORDERS, rel=0.25, abs=0.02)
 
 
 def test_a_weight_with_a_wrong_sign_is_0() -> None:
     """Answers that are drawn so that places farther away are right more often."""
-    weights = np.array([-0.05, *list(ROUND.values())[1:]])
-    found = fitted(drawn_trial(weights, 4000))
+    found = fitted(drawn_trial(np.array([-0.05, *ORDERS[1:]]), 4000))
     assert found[0] == 0
-    bounded = [weight.is_bounded for weight in WEIGHTS.values()]
-    assert (found[bounded] >= 0).all() and list(WEIGHTS)[5:7] == ["none", "none_points"]
+    assert [name for name, value in zip(WEIGHTS, found) if value < 0] == ["none"]
 
 
 def test_answers_count_by_their_weights() -> None:
     """Half of the answers are drawn by other weights, and count for nothing."""
-    weights = np.array(list(ROUND.values()))
-    one, other = drawn_trial(weights, 4000), drawn_trial(weights * 0 + 0.3, 4000)
+    one, other = drawn_trial(ORDERS, 4000), drawn_trial(ORDERS * 0 + 0.3, 4000)
     together = Trial(
         Differences(
             np.concatenate([one.differences.sizes, other.differences.sizes]),
@@ -210,13 +229,14 @@ def test_answers_count_by_their_weights() -> None:
         np.concatenate([one.weight, 0 * other.weight]),
     )
     # The means by which columns are centred differ, so that the search ends elsewhere within its tolerance.
-    assert fitted(together) == pytest.approx(fitted(one), rel=0.02, abs=1e-3)
+    assert fitted(together) == pytest.approx(fitted(one), rel=0.02, abs=1e-3 * ORDER)
 
 
 def test_checked_answers_shift_the_level() -> None:
-    """Forty answers of one place that told 0.73; all of them right, or none of them."""
-    differences = Differences(np.ones(40, int), np.zeros((40, 5)), np.full((40, 3), (1.0, 0, 0)))
-    weights = np.array([0, 0, 0, 0, 0, -1.0, 0, 0])
+    """Forty answers of one place that told 0.725; all of them right, or none of them."""
+    of_none = np.full((40, 4), (1.0, 0, 0, 0))
+    differences = Differences(np.ones(40, int), np.zeros((40, 5)), of_none)
+    weights = np.array([0, 0, 0, 0, 0, -1.4 * ORDER, 0, 0, 0])
     first = np.ones(40, dtype=np.bool_)
     told = []
     for right in (40, 29, 0):
@@ -224,8 +244,9 @@ def test_checked_answers_shift_the_level() -> None:
         again = shifted(weights, shift_of(weights, checked))
         told.append(float(probabilities(again, differences).of_place[0]))
         assert (again[:5] == weights[:5]).all() and (again[6:] == weights[6:]).all()
-        # At the optimum what the answers pull is what a normal curve of deviation 2 holds.
-        assert (again[5] - weights[5]) / 4 == pytest.approx(40 * told[-1] - right, abs=0.05)
+        # At the optimum what the answers pull is what a normal curve of deviation 3 holds.
+        shift = (again[5] - weights[5]) / ORDER
+        assert shift / 9 == pytest.approx(math.log(2) * (40 * told[-1] - right), abs=0.05)
     assert told[0] > 0.97 and told[1] == pytest.approx(29 / 40, abs=0.01) and told[2] < 0.05
 
 
@@ -233,13 +254,14 @@ def test_checked_answers_shift_the_level() -> None:
 def test_a_level_that_is_wanted(right: float, told: float) -> None:
     """Such a share of likeliest places is told to be right then, as far as the shift may go."""
     differences = Differences(
-        np.array([1, 2]), np.zeros((3, 5)), np.array([(1.0, 0, 0), (1, 2, 0)])
+        np.array([1, 2]), np.zeros((3, 5)), np.array([(1.0, 0, 0, 0), (1, 0, 2, 0)])
     )
-    weights, first = np.array([0, 0, 0, 0, 0, -1.0, 0.5, 0]), np.array([True, True, False])
+    weights = np.array([0, 0, 0, 0, 0, -1.4, 0, 0.7, 0]) * ORDER
+    first = np.array([True, True, False])
     shift = shift_to(weights, differences, first, right)
     found = probabilities(shifted(weights, shift), differences).of_place[first].mean()
     # Half of the second answer's probability is that of its other place.
-    assert found == pytest.approx(min(told, 0.75), abs=2e-3) and abs(shift) <= 8
+    assert found == pytest.approx(min(told, 0.75), abs=2e-3) and abs(shift) <= 12
 
 
 def test_parts_that_are_alike() -> None:
@@ -315,10 +337,14 @@ def test_a_file_is_read_as_it_was_written(tmp_path: Path) -> None:
             made
         )
     content = json.loads(file.read_text())
-    assert content["version"] == 2
-    assert {name: one["unit"] for name, one in content["weights"].items()} == {
-        name: weight.unit for name, weight in WEIGHTS.items()
-    }
+    assert content["version"] == 3 and content["weights"] == ROUND
+    assert content["units"] == {name: weight.unit for name, weight in WEIGHTS.items()}
+
+
+def test_how_different_maps_are_in_a_file() -> None:
+    """It is in whole thousandths."""
+    content = json.loads(text_of(confidence_of()))
+    assert content["map_differs"] == {"value": 900, "low": 600, "high": 1200}
 
 
 def changed(change: Callable[[Any], Any]) -> str:
@@ -334,7 +360,7 @@ def changed(change: Callable[[Any], Any]) -> str:
         ("", "Expecting value"),
         ("[]", "it isn't an object of JSON"),
         ("[" * 100_000, "its JSON is too deep"),
-        ('{"version": 1}', "its version is 1, not 2: make it again"),
+        ('{"version": 1}', "its version is 1, not 3: make it again"),
         (changed(lambda it: it.pop("apart")), "it isn't an object of about, apart,"),
         (changed(lambda it: it.update(more=1)), "it isn't an object of about, apart,"),
         (changed(lambda it: it.update(apart=-1)), "apart is -1, not a whole number from 0"),
@@ -342,16 +368,21 @@ def changed(change: Callable[[Any], Any]) -> str:
         (changed(lambda it: it["tolerances"].pop("class")), "tolerances isn't an object of"),
         (changed(lambda it: it["weights"].pop("none")), "weights isn't an object of"),
         (
-            changed(lambda it: it["weights"]["distance"].update(value=-0.1)),
-            "weight distance is -0.1, not a number of 0 or more",
+            changed(lambda it: it["weights"].update(distance=-1)),
+            "weight distance is -1, not a whole number from 0 to 268,435,456",
         ),
         (
-            changed(lambda it: it["weights"]["none"].update(value="x")),
-            "weight none is 'x', not a number",
+            changed(lambda it: it["weights"].update(leg=2**28 + 1)),
+            "weight leg is 268435457, not a",
         ),
-        (changed(lambda it: it["weights"]["none"].update(value=1e999)), "Infinity is no number"),
+        (changed(lambda it: it["weights"].update(none=1.5)), "weight none is 1.5, not a whole"),
         (
-            changed(lambda it: it["map_differs"].update(low=1.0)),
+            changed(lambda it: it["weights"].update(none=-(2**32) - 1)),
+            "weight none is -4294967297, not a whole number from -4,294,967,296 to 4,294,967,296",
+        ),
+        (changed(lambda it: it["weights"].update(none=1e999)), "Infinity is no number"),
+        (
+            changed(lambda it: it["map_differs"].update(low=1000)),
             "the value of map_differs doesn't lie from its low to its high",
         ),
         (changed(lambda it: it.update(level=-1)), "level is -1, not a number of 0 or more"),
@@ -386,7 +417,7 @@ def test_the_one_that_comes_with_the_package() -> None:
     assert differs is not None and 0.5 < differs.value < 1
     assert differs.high - differs.low > 0.3
     for name, weight in WEIGHTS.items():
-        assert not weight.is_bounded or shipped.weights[name] >= 0
+        assert weight.least <= shipped.weights[name] <= weight.greatest
 
 
 def town_without_bans(tmp_path: Path) -> Path:

@@ -46,8 +46,9 @@ SHOWN = {"within": 90, "most": 3}
 OPTIONS = [str(word) for name, value in SHOWN.items() for word in (f"--{name}", value)]
 DIFFERS = Range(0.83, 0.62, 1.18)
 DIFFER = "The maps seem to differ by 0.8 (0.6 to 1.2), 1 as another vendor's."
-WEIGHTS = {"distance": 0.02, "direction": 0.2, "length": 0.05, "behind": 0.02, "turning_back": 2.0}
-WEIGHTS |= {"none": -5.0, "none_points": -0.5, "none_lines": 0.5}
+WEIGHTS = {"distance": 300_000, "direction": 5_000_000, "leg": 100_000, "behind": 16_000}
+WEIGHTS |= {"turning_back": 48_000_000, "none": -120_000_000, "none_points": 12_000_000}
+WEIGHTS |= {"none_lines": 4_000_000, "none_length": 200_000}
 DRAWN, LINES = 100, 14
 """So many references of lines are drawn and matched, and so many are asked for in each way."""
 EXAMPLES = TOP / "examples"

@@ -17,6 +17,7 @@ from conftest import OF_PROGRAM, REFERENCE, TOP, Program
 from exact_paths import LineGraph, drawn_references
 from feeds import MARKUP, Feed, data_of, jq, make_feed, tables_of
 from olr.confidence.likeness import Range
+from olr.confidence.weights import ORDER
 from olr.model.map_folder import read_map
 from olr.regions.making import make_store_of_folder
 from olr.tools import run
@@ -189,21 +190,21 @@ def test_how_many_are_right(
 
 
 def test_the_likeliest_place_counts(tmp_path: Path) -> None:
-    """The roadworks' second place is 23.2 points likelier than the first one, as `test_view.py` works out. A tenth of that by this confidence:
-    so its probability is 1 / (1 + exp(-2.32))."""
+    """The roadworks' second place is 23.2 points likelier than the first one, as `test_view.py` works out: 696 thirtieths. By this confidence
+    200 of them are a binary order: so its probability is 1 / (1 + 2 ** -3.48)."""
     folder = tmp_path / "map"
     folder.mkdir()
     for name in ("nodes.csv", "lines.csv"):
         (folder / name).write_bytes((TOP / "examples" / name).read_bytes())
     messages = tmp_path / "feed.tsv"
     messages.write_text("m3\tCwVGnSN2zhvHCgDX/tIzAw==\n")
-    file = write_confidence(tmp_path / "sure.json", behind=0.1, none=-20.0)
+    file = write_confidence(tmp_path / "sure.json", behind=ORDER // 200, none=-30 * ORDER)
     found = report(Feed(folder, messages), tmp_path / "page.html", "--confidence", file)
     assert found["summary"][0].startswith("About 1 of 1 likeliest place is right (0 to 1), ")
     tables = tables_of(found)
     assert nonzero(tables["Likeliest places by probability"]) == {"0.9 to 1": 1}
     (row,) = found["rows"]
-    assert (row["total"], row["probability"], row["none_of_these"]) == (71, 0.911, 0.0)
+    assert (row["total"], row["probability"], row["none_of_these"]) == (71, 0.918, 0.0)
     (gap,) = (
         name for name, count in tables["Gaps of the other places that are shown"].items() if count
     )
@@ -372,7 +373,7 @@ def test_maps_that_no_feed_told(feed: Feed, tmp_path: Path) -> None:
     tolerances = [
         word for name, value in shipped["tolerances"].items() for word in (f"--{name}", value)
     ]
-    of_shipped = Range(**shipped["map_differs"])
+    of_shipped = Range(*(shipped["map_differs"][name] / 1000 for name in Range._fields))
     for words, name, differs in (
         (tolerances, "the confidence that comes with olr-tools", of_shipped),
         ((*OF_PROGRAM, "--confidence", own), "own.json", DIFFERS),

@@ -12,12 +12,12 @@ from drawing import Drawing
 from olr.confidence.choosing import judging_for
 from olr.confidence.feed import statistics_of
 from olr.confidence.reasons import reasons_of
-from olr.confidence.terms import INTERVAL, Terms, ends_of, terms_of
-from olr.confidence.weights import WEIGHTS
+from olr.confidence.terms import Terms, ends_of, terms_of
+from olr.confidence.weights import OF_PLACE, WEIGHTS, differences_of
 from olr.model.answers import Places, ReferencePoint
 from olr.model.objects import read_answer
 from olr.tools import run
-from olr.trials.encoder import text_of
+from olr.trials.encoder import INTERVAL, text_of
 from pathlib import Path
 
 NOTHING = {"bearing": 0, "class": 0, "distance": 0, "form": 0}
@@ -70,32 +70,34 @@ def test_terms_by_hand() -> None:
     assert (terms.first().tolist(), terms.owners().tolist()) == ([0], [1])
     assert (terms.costs.tolist(), terms.lines.tolist()) == ([4150], [3])
     assert terms.turns_back.tolist() == [False]
-    assert terms.from_end.tolist() == [20, 80, 30]
+    assert terms.end.tolist() == [200, 800, 300]
     assert ends_of([one.places[0].matching]) == [100]
-    assert (terms.distance.tolist(), terms.sectors.tolist()) == ([40, 0, 0], [2, 0, 0])
+    assert (terms.distance.tolist(), terms.sectors.tolist()) == ([4000, 0, 0], [2, 0, 0])
     assert (terms.classes.tolist(), terms.other_form.tolist()) == ([0, 1, 0], [False, True, False])
-    told = 3 * INTERVAL
-    assert terms.told.tolist() == pytest.approx([told, 6 * INTERVAL])
-    assert terms.longer().tolist() == pytest.approx([(230 - told) / told, 0])
-    assert terms.sums()[0].tolist() == pytest.approx([40, 2, 100 * (230 - told) / told])
+    assert terms.least.tolist() == [2 * INTERVAL, 5 * INTERVAL]
+    assert terms.greatest.tolist() == [3 * INTERVAL - 1, 6 * INTERVAL - 1]
+    # 2,300 less 1,757 decimetres are 308.8 thousandths of 1,758.
+    assert (terms.longer().tolist(), terms.lengths().tolist()) == ([308, 0], [5500])
+    assert terms.worst_point(terms.sectors).tolist() == [2]
+    assert terms.worst_leg(terms.longer()).tolist() == [308]
 
 
 def test_a_leg_that_is_too_short() -> None:
     """Told to be 293 m or longer, and 200 m long."""
     terms = terms_of([answer([point(0), point(0)], [(2000, 5)], 0, 1)])
-    least, most = 5 * INTERVAL, 6 * INTERVAL
-    assert terms.longer().tolist() == pytest.approx([(200 - least) / most])
+    # 2,930 less 2,000 decimetres are 264.5 thousandths of 3,516.
+    assert terms.longer().tolist() == [-264]
 
 
 def test_nothing() -> None:
     terms = terms_of([None, Places(0, (), "none")])
     assert (terms.sizes.tolist(), len(terms.first()), len(terms.costs)) == ([0, 0], 0, 0)
-    assert terms.sums().shape == (0, 3)
+    assert differences_of(terms).of_place.shape == (0, len(OF_PLACE))
 
 
 def of_three(**others: Any) -> Terms:
     """Those of a place of three points and two legs, of which the reference tells 450 to 508.6 m."""
-    usual = {"told": [450 + INTERVAL] * 2, "length": [500.0, 500], "lines": [3]}
+    usual = {"least": [4500] * 2, "greatest": [5085] * 2, "length": [5000] * 2, "lines": [3]}
     return made_terms([1], [3], **usual | others)
 
 
@@ -103,15 +105,15 @@ def of_three(**others: Any) -> Terms:
     "found, reason",
     [
         (of_three(), ""),
-        (of_three(distance=[19.9, 0, 0], sectors=[0, 1, 0], from_end=[0, 19.9, 0]), ""),
-        (of_three(distance=[0, 20.0, 0]), "point 2 lies 20 m beside its line"),
+        (of_three(distance=[1999, 0, 0], sectors=[0, 1, 0], end=[0, 199, 0]), ""),
+        (of_three(distance=[0, 2000, 0]), "point 2 lies 20 m beside its line"),
         (of_three(sectors=[0, 0, 2]), "the direction at point 3 differs by about 22 degrees"),
-        (of_three(from_end=[20.0, 0, 0]), "point 1 lies 20 m after the start of its line"),
-        (of_three(from_end=[0, 20.0, 0]), "point 2 lies 20 m after the start of its line"),
-        (of_three(from_end=[0, 0, 20.0]), "point 3 lies 20 m before the end of its line"),
-        (of_three(length=[500, 559.5]), "leg 2 is 10 percent longer than the reference says"),
-        (of_three(length=[399.2, 500]), "leg 1 is 10 percent shorter than the reference says"),
-        (of_three(length=[500, 518.0]), ""),
+        (of_three(end=[200, 0, 0]), "point 1 lies 20 m after the start of its line"),
+        (of_three(end=[0, 200, 0]), "point 2 lies 20 m after the start of its line"),
+        (of_three(end=[0, 0, 200]), "point 3 lies 20 m before the end of its line"),
+        (of_three(length=[5000, 5595]), "leg 2 is 10 percent longer than the reference says"),
+        (of_three(length=[3991, 5000]), "leg 1 is 10 percent shorter than the reference says"),
+        (of_three(length=[5000, 5186]), ""),
         (of_three(lines=[15]), "15 lines, any of which may be missing"),
         (of_three(turns_back=[True]), "it turns back"),
     ],
@@ -125,10 +127,10 @@ def test_a_reason(found: Terms, reason: str) -> None:
 def test_the_weightiest_reasons() -> None:
     """Four are said, those that weigh most first."""
     found = of_three(
-        from_end=[0, 60.0, 0],
-        distance=[90.0, 0, 0],
+        end=[0, 600, 0],
+        distance=[9000, 0, 0],
         sectors=[0, 3, 0],
-        length=[500, 750.0],
+        length=[5000, 7500],
         turns_back=[True],
         lines=[20],
     )
@@ -138,13 +140,13 @@ def test_the_weightiest_reasons() -> None:
     ]
 
 
-@pytest.mark.parametrize("length, off", [(970.7, 0.0), (1067.77, 0.1), (873.63, 0.1)])
-def test_how_far_long_legs_are_off(length: float, off: float) -> None:
+@pytest.mark.parametrize("length, off", [(9707, 0.0), (10678, 0.1), (8736, 0.1)])
+def test_how_far_long_legs_are_off(length: int, off: float) -> None:
     """From the middle of the interval that the reference says, in both directions."""
-    found = of_three(length=[300, length], told=[350, 1000.0])
+    found = of_three(length=[3000, length], least=[2914, 9414], greatest=[3499, 9999])
     numbers = statistics_of(found, np.zeros(len(WEIGHTS)))
     median = "median share by which long legs differ from the middle of what it says"
-    assert numbers[median] == pytest.approx(off, abs=1e-6)
+    assert numbers[median] == pytest.approx(off, abs=1e-4)
 
 
 def test_other_numbers_without_a_file() -> None:

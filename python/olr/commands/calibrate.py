@@ -12,7 +12,7 @@ from olr.confidence.contents import text_of
 from olr.confidence.messages import Feed, read_checked, read_line_references
 from olr.confidence.parts import GREATEST_DIFFERENCE, Asking, Drawing
 from olr.confidence.shift import Shift
-from olr.confidence.weights import WEIGHTS
+from olr.confidence.weights import ORDER, WEIGHTS
 from olr.errors import ToolError
 from olr.messages.message import Reading
 from olr.model.map_folder import inputs_of
@@ -156,4 +156,4 @@ def _lines(confidence: Confidence) -> Iterator[str]:
             f"{checked['shift']:+.2f}"
         )
     for name, weight in WEIGHTS.items():
-        yield f"weight {name}: {confidence.weights[name]:.4g} for {weight.unit}"
+        yield f"weight {name}: {confidence.weights[name] / ORDER:.4g} for {weight.unit}"

@@ -17,6 +17,7 @@ from olr.confidence.fitting import (
     shift_of,
     shift_to,
     shifted,
+    whole,
 )
 from olr.confidence.likeness import (
     WIDTH_OF_MAPS,
@@ -40,7 +41,7 @@ from olr.confidence.parts import (
 )
 from olr.confidence.shift import Shift, shift_found
 from olr.confidence.terms import Terms
-from olr.confidence.weights import WEIGHTS, Differences, differences_of, probabilities
+from olr.confidence.weights import Differences, differences_of, probabilities
 from olr.errors import ToolError
 from olr.model.map_folder import read_map, store_of
 from olr.model.road_map import RoadMap
@@ -49,8 +50,8 @@ from olr.version import VERSION
 
 SOME_REFERENCE = "CwVF/yN2yRpnBAFUAAgbpwYBAf9kK0Fa"
 """To ask whether the program reads a map."""
-DECIMALS = 4
-"""Of numbers in a file."""
+DECIMALS, DECIMALS_OF_MAPS = 4, 3
+"""Of numbers in a file that aren't whole, and of how different maps are."""
 OUTSIDE = 0.1
 """How far the level of a feed is off besides, if it is unlike all trials: a standard deviation."""
 
@@ -120,7 +121,7 @@ def calibrated(folder: Path, drawing: Drawing, asking: Asking, wanted: Wanted) -
     differs = None
     if wanted.pair is None:
         found = range_of(np.array([part.maps for part in parts]), chosen.weights)
-        differs = Range(**_rounded(found._asdict()))
+        differs = Range(*(round(it, DECIMALS_OF_MAPS) for it in found))
     about = _about(road_map, drawing, parts, chosen, wanted)
     if shift is not None:
         about["shift"] = {name: round(metres, 1) for name, metres in shift._asdict().items()}
@@ -131,7 +132,7 @@ def calibrated(folder: Path, drawing: Drawing, asking: Asking, wanted: Wanted) -
     return Confidence(
         tolerances=dict(asking.tolerances),
         apart=asking.apart,
-        weights=_rounded(dict(zip(WEIGHTS, shifted(weights, more)))),
+        weights=whole(shifted(weights, more)),
         map_differs=differs,
         about=about,
         level=round(level, DECIMALS),

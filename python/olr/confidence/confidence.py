@@ -40,8 +40,8 @@ class Confidence:
     """All of them, by the names of the program's options."""
     apart: int
     """In decimetres."""
-    weights: Mapping[str, float]
-    """By the names of `WEIGHTS`."""
+    weights: Mapping[str, int]
+    """By the names of `WEIGHTS`, in parts of a binary order."""
     map_differs: Range | None
     """How different the sender's map is, 1 as that of another maker, with an interval of 95 percent. None if it is known otherwise."""
     about: Mapping[str, Any]
@@ -104,7 +104,7 @@ class Confidence:
         >>> bool(of_place[0] + of_none[0] > 0.999)
         True
         """
-        weights = np.array([self.weights[name] for name in WEIGHTS])
+        weights = np.array([float(self.weights[name]) for name in WEIGHTS])
         return probabilities(weights, differences_of(terms))
 
 

@@ -11,11 +11,13 @@ from olr.confidence.weights import WEIGHTS
 from olr.errors import ToolError, readable
 from olr.model.questions import NUMBERS, TOLERANCES, Number
 
-VERSION = 2
+VERSION = 3
 """Of the form of the file."""
-FIELDS = {"about", "apart", "level", "map_differs", "tolerances", "version", "weights"}
+FIELDS = {"about", "apart", "level", "map_differs", "tolerances", "units", "version", "weights"}
 FIELDS_OF_ABOUT = {"map", "parts", "program", "references", "right", "seed"}
 """Those that each file has at least."""
+THOUSANDTHS, MOST_DIFFERENT = 1000, 1_000_000
+"""In which a file says how different maps are, and the greatest number of them."""
 
 
 def text_of(confidence: Confidence) -> str:
@@ -25,13 +27,12 @@ def text_of(confidence: Confidence) -> str:
         "about": confidence.about,
         "apart": confidence.apart,
         "level": confidence.level,
-        "map_differs": None if differs is None else differs._asdict(),
+        "map_differs": differs
+        and {name: round(value * THOUSANDTHS) for name, value in differs._asdict().items()},
         "tolerances": dict(confidence.tolerances),
+        "units": {name: weight.unit for name, weight in WEIGHTS.items()},
         "version": VERSION,
-        "weights": {
-            name: {"unit": weight.unit, "value": confidence.weights[name]}
-            for name, weight in WEIGHTS.items()
-        },
+        "weights": dict(confidence.weights),
     }
     return json.dumps(content, indent=1, sort_keys=True, allow_nan=False) + "\n"
 
@@ -63,11 +64,11 @@ def _confidence(content: Any) -> Confidence:
     fields = _object(content, FIELDS, "it")
     return Confidence(
         tolerances=_tolerances(fields["tolerances"]),
-        apart=_whole(fields["apart"], NUMBERS["places"]["apart"], "apart"),
+        apart=_of_program(fields["apart"], NUMBERS["places"]["apart"], "apart"),
         weights=_weights(fields["weights"]),
         map_differs=_range(fields["map_differs"]),
         about=_about(fields["about"]),
-        level=_number(fields["level"], 0.0, "level"),
+        level=_level(fields["level"]),
     )
 
 
@@ -78,36 +79,38 @@ def _object(content: Any, fields: set[str], what: str) -> dict[str, Any]:
     return content
 
 
-def _whole(value: Any, number: Number, what: str) -> int:
-    """A number of the program, within its range. Raises `ValueError` for what is none."""
-    least, greatest = number.least, number.greatest
+def _whole(value: Any, least: int, greatest: int, what: str) -> int:
+    """A whole number of a range. Raises `ValueError` for what is none."""
     if type(value) is not int or not least <= value <= greatest:
         raise ValueError(f"{what} is {value!r}, not a whole number from {least:,} to {greatest:,}")
     return value
 
 
-def _number(value: Any, least: float, what: str) -> float:
-    """A finite number. Raises `ValueError` for what is none, or too small."""
-    if type(value) not in (int, float) or not math.isfinite(value) or value < least:
-        at_least = "" if least == -math.inf else f" of {least:g} or more"
-        raise ValueError(f"{what} is {value!r}, not a number{at_least}")
+def _of_program(value: Any, number: Number, what: str) -> int:
+    """A number of the program. Raises `ValueError` for what is none."""
+    return _whole(value, number.least, number.greatest, what)
+
+
+def _level(value: Any) -> float:
+    """A finite number that isn't below 0. Raises `ValueError` for what is none."""
+    if type(value) not in (int, float) or not math.isfinite(value) or value < 0:
+        raise ValueError(f"level is {value!r}, not a number of 0 or more")
     return float(value)
 
 
 def _tolerances(content: Any) -> dict[str, int]:
     """All tolerances. Raises `ValueError` for one that is none, or out of range."""
     fields = _object(content, set(TOLERANCES), "tolerances")
-    return {name: _whole(fields[name], number, name) for name, number in TOLERANCES.items()}
+    return {name: _of_program(fields[name], number, name) for name, number in TOLERANCES.items()}
 
 
-def _weights(content: Any) -> dict[str, float]:
-    """The weights. Raises `ValueError` for one that is none, or below 0 where it may not be."""
+def _weights(content: Any) -> dict[str, int]:
+    """The weights. Raises `ValueError` for one that is none, or out of range."""
     fields = _object(content, set(WEIGHTS), "weights")
-    found = {}
-    for name, weight in WEIGHTS.items():
-        value = _object(fields[name], {"unit", "value"}, f"weight {name}")["value"]
-        found[name] = _number(value, 0.0 if weight.is_bounded else -math.inf, f"weight {name}")
-    return found
+    return {
+        name: _whole(fields[name], weight.least, weight.greatest, f"weight {name}")
+        for name, weight in WEIGHTS.items()
+    }
 
 
 def _range(content: Any) -> Range | None:
@@ -115,7 +118,11 @@ def _range(content: Any) -> Range | None:
     if content is None:
         return None
     fields = _object(content, set(Range._fields), "map_differs")
-    found = Range(**{name: _number(fields[name], 0.0, f"{name} of map_differs") for name in fields})
+    of_maps = {
+        name: _whole(fields[name], 0, MOST_DIFFERENT, f"{name} of map_differs") / THOUSANDTHS
+        for name in fields
+    }
+    found = Range(**of_maps)
     if not found.low <= found.value <= found.high:
         raise ValueError("the value of map_differs doesn't lie from its low to its high")
     return found

@@ -3,15 +3,15 @@
 import numpy as np
 from typing import Any
 
-from olr.arrays import Floats
+from olr.arrays import Floats, Integers
 from olr.confidence.shown import POINT
-from olr.confidence.terms import INTERVAL, Terms
+from olr.confidence.terms import Terms
 from olr.confidence.weights import differences_of, probabilities
 
 LEAST_REFERENCES = 80
 """A feed of fewer references says too little."""
-LONG_LEG = 500.0
-"""Metres: the lengths of shorter legs are too coarse to tell how much two maps differ."""
+LONG_LEG = 5000
+"""Decimetres: the lengths of shorter legs are too coarse to tell how much two maps differ."""
 SAYING = (
     "share of references without a place",
     "share of places that turn back",
@@ -19,8 +19,8 @@ SAYING = (
     "standard deviation of that",
 )
 """The numbers that say how many likeliest places are wrong. The others depend on a sender's habits at least as much."""
-FAR_END = 10.0
-"""Metres that a point lies from the proper end of its line, beyond which it doesn't lie at the junction."""
+FAR_END = 100
+"""Decimetres that a point lies from the proper end of its line, beyond which it doesn't lie at the junction."""
 
 
 def statistics_of(terms: Terms, weights: Floats) -> dict[str, float]:
@@ -32,10 +32,9 @@ def statistics_of(terms: Terms, weights: Floats) -> dict[str, float]:
     points = np.repeat(first, terms.counts)
     legs = np.repeat(first, terms.counts - 1)
     places = _or_zero(terms.sizes[terms.sizes > 0])
-    distance, sectors = _or_zero(terms.distance[points]), _or_zero(terms.sectors[points])
-    misses = _or_zero(np.abs(terms.longer()[legs]))
-    off = _off(terms.told[legs], terms.length[legs])
-    from_end = _or_zero(terms.from_end[points])
+    distance, sectors = _or_zero(terms.distance[points] / 100), _or_zero(terms.sectors[points])
+    misses = _or_zero(np.abs(terms.longer()[legs]) / 1000)
+    off = _off(terms.least[legs] + terms.greatest[legs] + 1, terms.length[legs])
     costs = _or_zero(terms.costs[first] / POINT / terms.counts[first])
     doubts = _or_zero(probabilities(weights, differences_of(terms)).of_none)
     return {
@@ -57,7 +56,7 @@ def statistics_of(terms: Terms, weights: Floats) -> dict[str, float]:
         "mean difference of classes": np.mean(_or_zero(terms.classes[points])),
         "share of points with another form": np.mean(_or_zero(terms.other_form[points])),
         "share of points that don't lie at the proper end of their line": np.mean(
-            from_end > FAR_END
+            _or_zero(terms.end[points]) > FAR_END
         ),
         "share of places that turn back": np.mean(_or_zero(terms.turns_back[first])),
         "mean likely cost for each point": np.mean(costs),
@@ -73,8 +72,8 @@ def _or_zero(values: Any) -> Any:
     return values if len(values) else np.zeros(1)
 
 
-def _off(told: Floats, length: Floats) -> Any:
-    """By what share long legs differ from the middle of what their references say; a 0 if there is none."""
-    middle = told - INTERVAL / 2
+def _off(ends: Integers, length: Integers) -> Any:
+    """By what share long legs differ from the middle of what their references say, of which `ends` has the sum of both ends; a 0 if there is none."""
+    middle = ends / 2
     is_long = middle >= LONG_LEG
     return _or_zero((length[is_long] - middle[is_long]) / middle[is_long])

@@ -1,20 +1,21 @@
 """Weights that answers to trials are fitted by, and their level, shifted by answers that somebody checked."""
 
+import math
 import numpy as np
 from scipy.optimize import brentq, minimize, minimize_scalar
 from typing import NamedTuple
 
 from olr.arrays import Booleans, Floats, Integers
-from olr.confidence.weights import OF_PLACE, WEIGHTS, Differences, probabilities
+from olr.confidence.weights import OF_PLACE, ORDER, WEIGHTS, Differences, probabilities
 
 NONE = -1
 """In place of the number of a place: none of them is the right one."""
 SHRINKING = 1e-4
 """How strongly a weight of its usual size is drawn to 0: so one of which trials say nothing is 0."""
-TRUST = 2.0
-"""How many worths of the logit a shift usually is: a normal curve of this deviation, so that a few answers don't decide alone."""
-MOST_SHIFT = 8.0
-"""Either way."""
+TRUST = 3.0
+"""How many binary orders a shift usually is: a normal curve of this deviation, so that a few answers don't decide alone."""
+MOST_SHIFT = 12.0
+"""Likewise, either way."""
 
 
 class Trial(NamedTuple):
@@ -28,7 +29,8 @@ class Trial(NamedTuple):
 
 
 def fitted(trial: Trial) -> Floats:
-    """The weights, in the order of `WEIGHTS`, by which right places are as probable as can be. Those that are bounded aren't below 0."""
+    """The weights, in the order of `WEIGHTS`, by which right places are as probable as can be: they aren't whole numbers yet. Those that are
+    bounded aren't below 0."""
     scale = np.array([weight.usual for weight in WEIGHTS.values()])
     of_none = trial.differences.of_none
     # Columns whose means are 0, but for the constant one, let the search end sooner.
@@ -44,10 +46,10 @@ def fitted(trial: Trial) -> Floats:
 
     found = minimize(
         loss,
-        np.where([weight.is_bounded for weight in WEIGHTS.values()], 0.5, 0.0),
+        np.where([name == "none" for name in WEIGHTS], 0.0, 0.5),
         jac=True,
         method="L-BFGS-B",
-        bounds=[(0.0 if weight.is_bounded else None, None) for weight in WEIGHTS.values()],
+        bounds=[(weight.least / weight.usual, None) for weight in WEIGHTS.values()],
         options={"ftol": 1e-12, "gtol": 1e-7, "maxiter": 500},
     )
     weights: Floats = found.x * scale
@@ -56,7 +58,7 @@ def fitted(trial: Trial) -> Floats:
 
 
 def _loss(weights: Floats, trial: Trial) -> tuple[float, Floats]:
-    """The mean of what right places lack in the logarithm of their probability, and its slope by each weight."""
+    """The mean of what right places lack in the natural logarithm of their probability, and its slope by each weight."""
     differences = trial.differences
     told = probabilities(weights, differences)
     is_none = trial.right == NONE
@@ -69,7 +71,7 @@ def _loss(weights: Floats, trial: Trial) -> tuple[float, Floats]:
     there = np.where(is_none[:, None], 0.0, differences.of_place[right])
     by_place = trial.weight @ (there - expected)
     by_none = trial.weight @ ((told.of_none - is_none)[:, None] * differences.of_none)
-    return value, np.concatenate([by_place, by_none])
+    return value, np.concatenate([by_place, by_none]) * (math.log(2) / ORDER)
 
 
 class Checked(NamedTuple):
@@ -83,7 +85,7 @@ class Checked(NamedTuple):
 
 
 def shift_of(weights: Floats, checked: Checked) -> float:
-    """By how much the worth of none of these has to be greater, so that as many of these answers are right as is told."""
+    """By how many binary orders the worth of none of these has to be greater, so that as many of these answers are right as is told."""
 
     def loss(shift: float) -> float:
         told = probabilities(shifted(weights, shift), checked.differences).of_place[checked.first]
@@ -95,7 +97,7 @@ def shift_of(weights: Floats, checked: Checked) -> float:
 
 
 def shift_to(weights: Floats, differences: Differences, first: Booleans, right: float) -> float:
-    """By how much the worth of none of these has to be greater, so that such a share of the likeliest places is told to be right."""
+    """By how many binary orders it has to be greater, so that such a share of the likeliest places is told to be right."""
 
     def off(shift: float) -> float:
         told = probabilities(shifted(weights, shift), differences).of_place[first]
@@ -107,7 +109,16 @@ def shift_to(weights: Floats, differences: Differences, first: Booleans, right: 
 
 
 def shifted(weights: Floats, shift: float) -> Floats:
-    """Weights with another worth of none of these."""
+    """Weights with another worth of none of these, by so many binary orders."""
     result = weights.copy()
-    result[len(OF_PLACE)] += shift
+    result[len(OF_PLACE)] += shift * ORDER
     return result
+
+
+def whole(weights: Floats) -> dict[str, int]:
+    """Weights as the whole numbers of a file, by their names."""
+    rounded = np.rint(weights).astype(np.int64).tolist()
+    return {
+        name: min(max(value, weight.least), weight.greatest)
+        for (name, weight), value in zip(WEIGHTS.items(), rounded)
+    }

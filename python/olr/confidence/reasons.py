@@ -4,13 +4,13 @@ import numpy as np
 from collections.abc import Iterator
 from typing import NamedTuple
 
-from olr.confidence.terms import Terms
+from olr.confidence.terms import MOST_END, Terms
 
 MOST_REASONS = 4
-OFF = 0.02
-"""The share by which a leg misses what the reference says, from which on it is said."""
-FAR, FAR_END = 20.0, 20.0
-"""Metres that a point lies from its line, and from the proper end of its line, from which on it is said."""
+OFF = 20
+"""The thousandths by which a leg misses what the reference says, from which on it is said."""
+FAR, FAR_END = 2000, 200
+"""Centimetres that a point lies from its line, and decimetres from the proper end of its line, from which on it is said."""
 OTHER_DIRECTION = 2
 """Sectors of 11.25 degrees, likewise."""
 MANY_LINES = 15
@@ -36,7 +36,7 @@ def reasons_of(terms: Terms) -> list[str]:
         reasons = [
             *_of_route(bool(terms.turns_back[number]), int(terms.lines[number])),
             *_of_legs(longer[of_legs].tolist()),
-            *_of_ends(terms.from_end[of_points].tolist()),
+            *_of_ends(terms.end[of_points].tolist()),
             *_of_distances(terms.distance[of_points].tolist()),
             *_of_directions(terms.sectors[of_points].tolist()),
         ]
@@ -52,32 +52,33 @@ def _of_route(turns_back: bool, lines: int) -> Iterator[_Reason]:
         yield _Reason(0, f"{lines} lines, any of which may be missing")
 
 
-def _of_legs(longer: list[float]) -> Iterator[_Reason]:
-    for number, share in enumerate(longer, 1):
-        if abs(share) >= OFF:
-            word = "longer" if share > 0 else "shorter"
-            percent = 100 * abs(share)
+def _of_legs(longer: list[int]) -> Iterator[_Reason]:
+    for number, thousandths in enumerate(longer, 1):
+        if abs(thousandths) >= OFF:
+            word = "longer" if thousandths > 0 else "shorter"
+            percent = abs(thousandths) / 10
             yield _Reason(
                 2 * percent, f"leg {number} is {percent:.0f} percent {word} than the reference says"
             )
 
 
-def _of_ends(from_end: list[float]) -> Iterator[_Reason]:
-    for number, metres in enumerate(from_end, 1):
-        if metres >= FAR_END:
-            is_last = number == len(from_end)
+def _of_ends(ends: list[int]) -> Iterator[_Reason]:
+    for number, end in enumerate(ends, 1):
+        if end >= FAR_END:
+            is_last = number == len(ends)
             where = "before the end" if is_last else "after the start"
-            weight = min(metres, 50.0) / 3
-            yield _Reason(weight, f"point {number} lies {metres:.0f} m {where} of its line")
+            weight = min(end, MOST_END) / 30
+            yield _Reason(weight, f"point {number} lies {end / 10:.0f} m {where} of its line")
 
 
-def _of_distances(distance: list[float]) -> Iterator[_Reason]:
-    for number, metres in enumerate(distance, 1):
-        if metres >= FAR:
+def _of_distances(distance: list[int]) -> Iterator[_Reason]:
+    for number, off in enumerate(distance, 1):
+        if off >= FAR:
+            metres = off / 100
             yield _Reason(metres, f"point {number} lies {metres:.0f} m beside its line")
 
 
-def _of_directions(sectors: list[float]) -> Iterator[_Reason]:
+def _of_directions(sectors: list[int]) -> Iterator[_Reason]:
     for number, off in enumerate(sectors, 1):
         if off >= OTHER_DIRECTION:
             degrees = off * 11.25

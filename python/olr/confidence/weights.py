@@ -1,7 +1,8 @@
 """The weights of a confidence: how much each difference between a reference and a place counts.
 
 The probabilities of the places of an answer, and that none of them is the right one, are those of a conditional logit: each place has a
-worth, which its differences lower, `none of these` has one too, and a probability is the share of the exponential of a worth in all of them.
+worth, which its differences lower, `none of these` has one too, and a probability is the share of 2 to the power of a worth in all of them.
+Worths, differences and the weights of a file are whole numbers.
 """
 
 import numpy as np
@@ -9,8 +10,14 @@ from collections.abc import Mapping
 from typing import NamedTuple
 
 from olr.arrays import Floats, Integers
-from olr.confidence.shown import POINT
 from olr.confidence.terms import Terms
+
+ORDER = 1 << 24
+"""A worth that is so much greater is twice as probable: worths and weights are in parts of a binary order."""
+MOST, MOST_OF_NONE = 1 << 28, 1 << 32
+"""The greatest weight that there may be, and that of none of these, which may be below 0 by as much. The others are at least 0."""
+PARTS_OF_LINE = 16
+"""Of whose number the root is counted."""
 
 
 class Weight(NamedTuple):
@@ -18,29 +25,37 @@ class Weight(NamedTuple):
 
     unit: str
     """What it is for."""
-    usual: float
-    """How large it is, more or less: for the search."""
-    is_bounded: bool = True
-    """Whether it is at least 0."""
+    usual: int
+    """How large it is, more or less, in parts of a binary order: for the search."""
+    least: int = 0
+    greatest: int = MOST
 
 
 OF_PLACE: Mapping[str, Weight] = {
-    "distance": Weight("a metre that a point lies from its line", 0.1),
-    "direction": Weight("a sector of 11.25 degrees between a point and its line", 1.0),
-    "length": Weight("a percent by which a leg misses what the reference says", 0.2),
-    "behind": Weight("a point of likely cost beyond that of the likeliest place", 0.1),
-    "turning_back": Weight("a route that turns back", 3.0),
+    "distance": Weight(
+        "a thousandth of the route between the farthest point and its line", 800_000
+    ),
+    "direction": Weight(
+        "a sector of 11.25 degrees between the worst direction and its line", 4_000_000
+    ),
+    "leg": Weight("a thousandth by which the worst leg misses what the reference says", 300_000),
+    "behind": Weight("a thirtieth of a point of likely cost beyond the likeliest place", 50_000),
+    "turning_back": Weight("a route that turns back", 72_000_000),
 }
 """What lowers the worth of a place."""
 OF_NONE: Mapping[str, Weight] = {
-    "none": Weight("none of these, of a reference of two points", 1.0, False),
-    "none_points": Weight("each further point of the reference", 1.0, False),
-    "none_lines": Weight(
-        "the logarithm of the number of lines of the likeliest place, any of which may be missing",
-        2.0,
+    "none": Weight(
+        "none of these, of a reference of two points", 48_000_000, -MOST_OF_NONE, MOST_OF_NONE
     ),
+    "none_points": Weight(
+        "each further point of the reference, which makes it less probable", 12_000_000
+    ),
+    "none_lines": Weight(
+        "a quarter of the root of the number of lines of the likeliest place", 8_000_000
+    ),
+    "none_length": Weight("the root of a decimetre of its length", 400_000),
 }
-"""What raises that of none of these."""
+"""What raises that of none of these, but for the points, which lower it."""
 WEIGHTS: Mapping[str, Weight] = {**OF_PLACE, **OF_NONE}
 
 
@@ -71,12 +86,22 @@ class Probabilities(NamedTuple):
 def differences_of(terms: Terms) -> Differences:
     """What the weights count of places."""
     sizes = terms.sizes[terms.sizes > 0]
-    first = terms.first()
-    behind = (terms.costs - np.repeat(terms.costs[first], sizes)) / POINT
-    columns = (*terms.sums().T, behind, terms.turns_back.astype(np.float64))
-    points, lines = terms.counts[first], terms.lines[first]
-    of_none = (np.ones(len(first)), points - 2.0, np.log(np.maximum(lines, 1)))
-    return Differences(sizes, np.stack(columns, axis=1), np.stack(of_none, axis=1))
+    first, lengths = terms.first(), terms.lengths()
+    of_place = (
+        100 * terms.worst_point(terms.distance) // np.maximum(lengths, 1),
+        terms.worst_point(terms.sectors),
+        terms.worst_leg(np.abs(terms.longer())),
+        terms.costs - np.repeat(terms.costs[first], sizes),
+        terms.turns_back,
+    )
+    of_none = (
+        np.ones(len(first)),
+        2 - terms.counts[first],
+        np.floor(np.sqrt(PARTS_OF_LINE * terms.lines[first])),
+        np.floor(np.sqrt(lengths[first])),
+    )
+    columns = (np.stack(it, axis=1).astype(np.float64) for it in (of_place, of_none))
+    return Differences(sizes, *columns)
 
 
 def probabilities(weights: Floats, differences: Differences) -> Probabilities:
@@ -87,7 +112,7 @@ def probabilities(weights: Floats, differences: Differences) -> Probabilities:
     of_place = -differences.of_place @ weights[: len(OF_PLACE)]
     of_none = differences.of_none @ weights[len(OF_PLACE) :]
     greatest = np.maximum(np.maximum.reduceat(of_place, starts), of_none)
-    of_place -= np.repeat(greatest, sizes)
-    place, none = np.exp(of_place), np.exp(of_none - greatest)
+    place = np.exp2((of_place - np.repeat(greatest, sizes)) / ORDER)
+    none = np.exp2((of_none - greatest) / ORDER)
     whole = np.add.reduceat(place, starts) + none
     return Probabilities(place / np.repeat(whole, sizes), none / whole)

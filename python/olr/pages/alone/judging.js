@@ -13,6 +13,8 @@ const NUMBERS_OF_CONFIDENCE = ["radius", "bearing", "class", "lowest", "percent"
 const REMEDY_OF_OTHERS = "make a file with your options by olr-tools calibrate";
 // Likely costs are in parts of a penalty point, so many of one.
 const PARTS_OF_POINT = 30;
+// Weights and worths are in parts of a binary order; and of parts of lines the root is counted.
+const [ORDER, PARTS_OF_LINE] = [2 ** 24, 16];
 
 // By what answers are judged: if the confidence is for other numbers there are no probabilities.
 function judgingBy(confidence, numbers) {
@@ -47,9 +49,14 @@ function judged(answer, { confidence, shown }) {
     verdict: verdictWithin(answer, shown),
     margin: answer.margin,
     noneOfThese: said && said.ofNone,
-    mapDiffers: said && confidence.map_differs,
+    mapDiffers: said && mapDiffersOf(confidence),
     isCutOff: isCutOff(answer, shown),
   };
+}
+
+// How different the sender's map is, of which a file has thousandths; null if it doesn't say it.
+function mapDiffersOf({ map_differs: differs }) {
+  return differs && { value: differs.value / 1000, low: differs.low / 1000, high: differs.high / 1000 };
 }
 
 // ---- what the program says of shorter lists
@@ -79,34 +86,51 @@ function isCutOff({ places, next }, { within }) {
 
 // How probable it is that each place is the right one, and that none is; null where nothing is said, as of points along a line: no trial is of
 // one. A conditional logit: each place has a worth, which its differences lower, none of these has one too, and a probability is the share of
-// the exponential of a worth in all of them.
+// 2 to the power of a worth in all of them. Worths are whole numbers.
 function probabilitiesOf({ places }, confidence) {
   if (confidence === null || !places.length || (places[0].matching.earliest ?? null) !== null) return null;
-  const weights = Object.fromEntries(Object.entries(confidence.weights).map(([name, { value }]) => [name, value]));
+  const { weights } = confidence;
   const [{ cost: least, matching: first }] = places;
-  const ofPlace = places.map(({ cost, matching }) => -worthLost(weights, matching, (cost - least) / PARTS_OF_POINT));
-  const ofNone = weights.none + (first.points.length - 2) * weights.none_points + Math.log(Math.max(first.route.length, 1)) * weights.none_lines;
+  const ofPlace = places.map(({ cost, matching }) => -worthOf(weights, differencesOf(matching, cost - least)));
+  const none = {
+    none: 1,
+    none_points: 2 - first.points.length,
+    none_lines: Math.floor(Math.sqrt(PARTS_OF_LINE * first.route.length)),
+    none_length: Math.floor(Math.sqrt(lengthOf(first))),
+  };
+  const ofNone = worthOf(weights, none);
   const greatest = Math.max(...ofPlace, ofNone);
-  const shares = ofPlace.map((worth) => Math.exp(worth - greatest));
-  const none = Math.exp(ofNone - greatest);
-  const whole = sumOf(shares) + none;
-  return { ofPlace: shares.map((share) => share / whole), ofNone: none / whole };
+  const [shareOfNone, ...shares] = [ofNone, ...ofPlace].map((worth) => 2 ** ((worth - greatest) / ORDER));
+  const whole = sumOf(shares) + shareOfNone;
+  return { ofPlace: shares.map((share) => share / whole), ofNone: shareOfNone / whole };
 }
 
-// `behind` is by how many penalty points the matching costs more than the likeliest one.
-function worthLost(weights, { points, legs, turns_back: isBack }, behind) {
-  const distance = sumOf(points.map((point) => point.distance)) / 100;
-  const sectors = sumOf(points.map((point) => point.sectors));
-  const percent = sumOf(legs.map((leg) => Math.abs(100 * longerThanTold(leg))));
-  const ofPoints = distance * weights.distance + sectors * weights.direction;
-  return ofPoints + percent * weights.length + behind * weights.behind + Number(isBack) * weights.turning_back;
+function worthOf(weights, differences) {
+  return sumOf(Object.entries(differences).map(([name, value]) => value * weights[name]));
 }
 
-// By what share a leg is longer than the greatest length that its reference tells, or shorter than the least one, below 0: in metres, and so
-// rounded as in Python.
-function longerThanTold({ length, greatest }) {
-  const [metres, told] = [length / 10, (greatest + 1) / 10];
-  return (Math.max(metres - told, 0) - Math.max(told - INTERVAL_METRES - metres, 0)) / told;
+// What lowers the worth of a place, whose matching costs so much more than the likeliest one.
+function differencesOf(matching, behind) {
+  const { points, legs, turns_back: isBack } = matching;
+  const farthest = Math.max(...points.map(({ distance }) => distance));
+  return {
+    distance: Math.floor((100 * farthest) / Math.max(lengthOf(matching), 1)),
+    direction: Math.max(...points.map(({ sectors }) => sectors)),
+    leg: Math.max(...legs.map((leg) => Math.abs(longerThanTold(leg)))),
+    behind,
+    turning_back: Number(isBack),
+  };
+}
+
+// The length of a route, in decimetres.
+function lengthOf({ legs }) {
+  return sumOf(legs.map(({ length }) => length));
+}
+
+// By how many thousandths of the greatest length that the reference tells a leg is longer than that, or, below 0, shorter than the least one.
+function longerThanTold({ length, least, greatest }) {
+  const [above, below] = [length - greatest, least - length].map((it) => Math.floor((1000 * Math.max(it, 0)) / (greatest + 1)));
+  return above - below;
 }
 
 // ---- what is said of a place
@@ -114,8 +138,8 @@ function longerThanTold({ length, greatest }) {
 // Decimetres that a point lies from the proper end of its line at most, as it is counted: farther away is no worse.
 const MOST_END = 500;
 const MOST_REASONS = 4;
-// The share by which a leg misses what the reference says, from which on it is said.
-const OFF = 0.02;
+// The thousandths by which a leg misses what the reference says, from which on it is said.
+const OFF = 20;
 // Metres that a point lies from its line, and from the proper end of its line, sectors of 11.25 degrees, and lines of a route: likewise.
 const [FAR, FAR_END, OTHER_DIRECTION, MANY_LINES] = [20, 20, 2, 15];
 const ALL_FITS = "points, directions and lengths are as the reference says";
@@ -145,10 +169,10 @@ function reasonsOfRoute(isBack, lines) {
 }
 
 function reasonsOfLeg(leg, place) {
-  const share = longerThanTold(leg);
-  if (Math.abs(share) < OFF) return [];
-  const percent = 100 * Math.abs(share);
-  return [{ weight: 2 * percent, text: `leg ${place + 1} is ${fixed(percent, 0)} percent ${share > 0 ? "longer" : "shorter"} than the reference says` }];
+  const thousandths = longerThanTold(leg);
+  if (Math.abs(thousandths) < OFF) return [];
+  const percent = Math.abs(thousandths) / 10;
+  return [{ weight: 2 * percent, text: `leg ${place + 1} is ${fixed(percent, 0)} percent ${thousandths > 0 ? "longer" : "shorter"} than the reference says` }];
 }
 
 function reasonsOfEnd(metres, number, isLast) {

@@ -106,7 +106,7 @@ function isFromFeed(confidence) {
 
 // How different the two maps seem, or of how different ones the probabilities are; an empty text if the confidence doesn't say it.
 function differsText(confidence) {
-  const differs = confidence.map_differs;
+  const differs = mapDiffersOf(confidence);
   if (differs === null) return "";
   const number = `${fixed(differs.value, 1)} (${fixed(differs.low, 1)} to ${fixed(differs.high, 1)})`;
   if (isFromFeed(confidence)) return `The maps seem to differ by ${number}, 1 as another vendor's.`;
