@@ -59,8 +59,9 @@ ROADWORKS = "CwVGnSN2zhvHCgDX/tIzAw=="
 """Without the town's bans two places."""
 USUAL = {name: number.default for name, number in TOLERANCES.items()}
 ABOUT = dict.fromkeys(("map", "parts", "program", "references", "right", "seed"), 0)
-ORDERS = np.array([0.04, 0.25, 0.02, 0.005, 4.0, -10.0, 0.75, 0.5, 0.03125])
-ROUND = whole(ORDERS * ORDER)
+ONE = float(ORDER)
+ORDERS: Floats = np.array([0.04, 0.25, 0.02, 0.005, 4.0, -10.0, -0.75, 0.5, 0.03125])
+ROUND = whole(ORDERS * ONE)
 
 
 def confidence_of(**others: Any) -> Confidence:
@@ -74,9 +75,9 @@ def test_probabilities_by_hand() -> None:
     differences = Differences(
         np.array([2, 1]),
         np.array([[0, 0, 0, 0, 0], [0, 0, 0, 400, 0], [0, 0, 0, 0, 1.0]]),
-        np.array([[1, 0, 6, 32], [1, -1, 0.0, 0]]),
+        np.array([[1, 0, 6, 32], [1, 1, 0.0, 0]]),
     )
-    told = probabilities(ORDERS * ORDER, differences)
+    told = probabilities(ORDERS * ONE, differences)
     one = [1.0, 2**-2, 2 ** (-10 + 3 + 1)]
     other = [2**-4, 2**-10.75]
     assert told.of_place.tolist() == pytest.approx(
@@ -103,7 +104,7 @@ def test_what_weights_count() -> None:
     assert found.sizes.tolist() == [2, 1]
     expected = [[3, 0, 0, 0, 1], [7, 2, 21, 600, 0], [14, 0, 100, 0, 0]]
     assert found.of_place.tolist() == expected
-    assert found.of_none.tolist() == [[1, -1, 12, 98], [1, 0, 4, 74]]
+    assert found.of_none.tolist() == [[1, 1, 12, 98], [1, 0, 4, 74]]
 
 
 def test_a_route_without_a_length() -> None:
@@ -112,10 +113,22 @@ def test_a_route_without_a_length() -> None:
     assert differences_of(terms).of_place.tolist() == [[700, 0, 0, 0, 0]]
 
 
+def test_the_most_that_is_counted() -> None:
+    """A point 20 km off, a leg that is far too long, and many points and lines."""
+    long = made_terms([1], [2], distance=[2_000_000, 0], length=[3_000_000], lines=[200_000])
+    found = differences_of(long)
+    assert found.of_place.tolist() == [[66, 0, 1000, 0, 0]]
+    assert found.of_none.tolist() == [[1, 0, 1264, 1000]]
+    many = differences_of(
+        made_terms([1], [103], distance=[5000] * 103, length=[0] * 102, least=[0] * 102)
+    )
+    assert many.of_place[0, 0] == 1000 and many.of_none[0].tolist() == [1, 98, 4, 0]
+
+
 def test_weights_of_a_file() -> None:
     """They are rounded, and within what is allowed."""
-    found = whole(np.array([1.6, -3, 2.0**40, 0, 0, -(2.0**40), 0, 2.4, 0]))
-    assert list(found.values()) == [2, 0, 2**28, 0, 0, -(2**32), 0, 2, 0]
+    found = whole(np.array([1.6, -3, 2.0**40, 0, 0, -(2.0**40), -1.4, 2.0**40, 0]))
+    assert list(found.values()) == [2, 0, 2**28, 0, 0, -(2**32), -1, 2**32, 0]
 
 
 def test_the_right_place_of_an_answer() -> None:
@@ -135,7 +148,7 @@ def part_of(count: int, right: int) -> Part:
 def test_what_is_seen_of_answers_without_a_place() -> None:
     """That none has one, and nothing else."""
     terms = made_terms([0, 0, 0], [])
-    without, *others = statistics_of(terms, ORDERS * ORDER).values()
+    without, *others = statistics_of(terms, ORDERS * ONE).values()
     assert (without, set(others)) == (1, {0})
 
 
@@ -187,10 +200,10 @@ def drawn_trial(weights: Floats, count: int) -> Trial:
     of_place = draws.gamma(2, 1, (int(sizes.sum()), len(OF_PLACE)))
     of_place *= (10, 1, 20, 120, 0)
     of_place[:, 4] = draws.random(len(of_place)) < 0.1
-    of_none = [np.ones(count), -draws.integers(0, 4, count)]
+    of_none = [np.ones(count), draws.integers(0, 4, count)]
     of_none += [draws.gamma(4, 3, count), draws.gamma(8, 15, count)]
     differences = Differences(sizes, of_place, np.stack(of_none, axis=1).astype(np.float64))
-    told = probabilities(weights * ORDER, differences)
+    told = probabilities(weights * ONE, differences)
     right = np.full(count, NONE)
     for number, (start, size) in enumerate(zip(differences.starts(), sizes)):
         chances = [*told.of_place[start : start + size], told.of_none[number]]
@@ -200,7 +213,7 @@ def drawn_trial(weights: Floats, count: int) -> Trial:
 
 
 def test_weights_that_answers_were_drawn_by_are_found() -> None:
-    found = fitted(drawn_trial(ORDERS, 20_000)) / ORDER
+    found = fitted(drawn_trial(ORDERS, 20_000)) / ONE
     assert found == pytest.approx(ORDERS, rel=0.25, abs=0.02)
 
 
@@ -208,7 +221,7 @@ def test_a_weight_with_a_wrong_sign_is_0() -> None:
     """Answers that are drawn so that places farther away are right more often."""
     found = fitted(drawn_trial(np.array([-0.05, *ORDERS[1:]]), 4000))
     assert found[0] == 0
-    assert [name for name, value in zip(WEIGHTS, found) if value < 0] == ["none"]
+    assert [name for name, value in zip(WEIGHTS, found) if value < 0] == ["none", "none_points"]
 
 
 def test_answers_count_by_their_weights() -> None:
@@ -229,14 +242,14 @@ def test_answers_count_by_their_weights() -> None:
         np.concatenate([one.weight, 0 * other.weight]),
     )
     # The means by which columns are centred differ, so that the search ends elsewhere within its tolerance.
-    assert fitted(together) == pytest.approx(fitted(one), rel=0.02, abs=1e-3 * ORDER)
+    assert fitted(together) == pytest.approx(fitted(one), rel=0.02, abs=1e-3 * ONE)
 
 
 def test_checked_answers_shift_the_level() -> None:
     """Forty answers of one place that told 0.725; all of them right, or none of them."""
     of_none = np.full((40, 4), (1.0, 0, 0, 0))
     differences = Differences(np.ones(40, int), np.zeros((40, 5)), of_none)
-    weights = np.array([0, 0, 0, 0, 0, -1.4 * ORDER, 0, 0, 0])
+    weights = np.array([0, 0, 0, 0, 0, -1.4 * ONE, 0, 0, 0])
     first = np.ones(40, dtype=np.bool_)
     told = []
     for right in (40, 29, 0):
@@ -245,7 +258,7 @@ def test_checked_answers_shift_the_level() -> None:
         told.append(float(probabilities(again, differences).of_place[0]))
         assert (again[:5] == weights[:5]).all() and (again[6:] == weights[6:]).all()
         # At the optimum what the answers pull is what a normal curve of deviation 3 holds.
-        shift = (again[5] - weights[5]) / ORDER
+        shift = (again[5] - weights[5]) / ONE
         assert shift / 9 == pytest.approx(math.log(2) * (40 * told[-1] - right), abs=0.05)
     assert told[0] > 0.97 and told[1] == pytest.approx(29 / 40, abs=0.01) and told[2] < 0.05
 
@@ -256,7 +269,7 @@ def test_a_level_that_is_wanted(right: float, told: float) -> None:
     differences = Differences(
         np.array([1, 2]), np.zeros((3, 5)), np.array([(1.0, 0, 0, 0), (1, 0, 2, 0)])
     )
-    weights = np.array([0, 0, 0, 0, 0, -1.4, 0, 0.7, 0]) * ORDER
+    weights = np.array([0, 0, 0, 0, 0, -1.4, 0, 0.7, 0]) * ONE
     first = np.array([True, True, False])
     shift = shift_to(weights, differences, first, right)
     found = probabilities(shifted(weights, shift), differences).of_place[first].mean()

@@ -14,8 +14,10 @@ from olr.confidence.terms import Terms
 
 ORDER = 1 << 24
 """A worth that is so much greater is twice as probable: worths and weights are in parts of a binary order."""
-MOST, MOST_OF_NONE = 1 << 28, 1 << 32
-"""The greatest weight that there may be, and that of none of these, which may be below 0 by as much. The others are at least 0."""
+MOST_OF_PLACE, MOST_OF_NONE = 1 << 28, 1 << 32
+"""The greatest weight of a difference of places, which is at least 0, and that of none of these, which may be below 0 by as much."""
+MOST_THOUSANDTHS, MOST_POINTS, MOST_LINES, MOST_LENGTH = 1000, 100, 100_000, 1_000_000
+"""As many are counted at most; of a length decimetres."""
 PARTS_OF_LINE = 16
 """Of whose number the root is counted."""
 
@@ -28,7 +30,12 @@ class Weight(NamedTuple):
     usual: int
     """How large it is, more or less, in parts of a binary order: for the search."""
     least: int = 0
-    greatest: int = MOST
+    greatest: int = MOST_OF_PLACE
+
+
+def _of_none(unit: str, usual: int) -> Weight:
+    """One of none of these."""
+    return Weight(unit, usual, -MOST_OF_NONE, MOST_OF_NONE)
 
 
 OF_PLACE: Mapping[str, Weight] = {
@@ -44,18 +51,14 @@ OF_PLACE: Mapping[str, Weight] = {
 }
 """What lowers the worth of a place."""
 OF_NONE: Mapping[str, Weight] = {
-    "none": Weight(
-        "none of these, of a reference of two points", 48_000_000, -MOST_OF_NONE, MOST_OF_NONE
-    ),
-    "none_points": Weight(
-        "each further point of the reference, which makes it less probable", 12_000_000
-    ),
-    "none_lines": Weight(
+    "none": _of_none("none of these, of a reference of two points", 48_000_000),
+    "none_points": _of_none("each further point of the reference", 12_000_000),
+    "none_lines": _of_none(
         "a quarter of the root of the number of lines of the likeliest place", 8_000_000
     ),
-    "none_length": Weight("the root of a decimetre of its length", 400_000),
+    "none_length": _of_none("the root of a decimetre of its length", 400_000),
 }
-"""What raises that of none of these, but for the points, which lower it."""
+"""What raises that of none of these."""
 WEIGHTS: Mapping[str, Weight] = {**OF_PLACE, **OF_NONE}
 
 
@@ -87,18 +90,19 @@ def differences_of(terms: Terms) -> Differences:
     """What the weights count of places."""
     sizes = terms.sizes[terms.sizes > 0]
     first, lengths = terms.first(), terms.lengths()
+    share = 100 * terms.worst_point(terms.distance) // np.maximum(lengths, 1)
     of_place = (
-        100 * terms.worst_point(terms.distance) // np.maximum(lengths, 1),
+        np.minimum(share, MOST_THOUSANDTHS),
         terms.worst_point(terms.sectors),
-        terms.worst_leg(np.abs(terms.longer())),
+        np.minimum(terms.worst_leg(np.abs(terms.longer())), MOST_THOUSANDTHS),
         terms.costs - np.repeat(terms.costs[first], sizes),
         terms.turns_back,
     )
     of_none = (
         np.ones(len(first)),
-        2 - terms.counts[first],
-        np.floor(np.sqrt(PARTS_OF_LINE * terms.lines[first])),
-        np.floor(np.sqrt(lengths[first])),
+        np.minimum(terms.counts[first], MOST_POINTS) - 2,
+        np.floor(np.sqrt(PARTS_OF_LINE * np.minimum(terms.lines[first], MOST_LINES))),
+        np.floor(np.sqrt(np.minimum(lengths[first], MOST_LENGTH))),
     )
     columns = (np.stack(it, axis=1).astype(np.float64) for it in (of_place, of_none))
     return Differences(sizes, *columns)

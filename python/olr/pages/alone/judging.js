@@ -14,7 +14,7 @@ const REMEDY_OF_OTHERS = "make a file with your options by olr-tools calibrate";
 // Likely costs are in parts of a penalty point, so many of one.
 const PARTS_OF_POINT = 30;
 // Weights and worths are in parts of a binary order; and of parts of lines the root is counted.
-const [ORDER, PARTS_OF_LINE] = [2 ** 24, 16];
+const [ORDER, PARTS_OF_LINE, MOST_THOUSANDTHS] = [2 ** 24, 16, 1000];
 
 // By what answers are judged: if the confidence is for other numbers there are no probabilities.
 function judgingBy(confidence, numbers) {
@@ -94,9 +94,9 @@ function probabilitiesOf({ places }, confidence) {
   const ofPlace = places.map(({ cost, matching }) => -worthOf(weights, differencesOf(matching, cost - least)));
   const none = {
     none: 1,
-    none_points: 2 - first.points.length,
-    none_lines: Math.floor(Math.sqrt(PARTS_OF_LINE * first.route.length)),
-    none_length: Math.floor(Math.sqrt(lengthOf(first))),
+    none_points: Math.min(first.points.length, 100) - 2,
+    none_lines: Math.floor(Math.sqrt(PARTS_OF_LINE * Math.min(first.route.length, 100000))),
+    none_length: Math.floor(Math.sqrt(Math.min(lengthOf(first), 1000000))),
   };
   const ofNone = worthOf(weights, none);
   const greatest = Math.max(...ofPlace, ofNone);
@@ -114,9 +114,9 @@ function differencesOf(matching, behind) {
   const { points, legs, turns_back: isBack } = matching;
   const farthest = Math.max(...points.map(({ distance }) => distance));
   return {
-    distance: Math.floor((100 * farthest) / Math.max(lengthOf(matching), 1)),
+    distance: Math.min(Math.floor((100 * farthest) / Math.max(lengthOf(matching), 1)), MOST_THOUSANDTHS),
     direction: Math.max(...points.map(({ sectors }) => sectors)),
-    leg: Math.max(...legs.map((leg) => Math.abs(longerThanTold(leg)))),
+    leg: Math.min(Math.max(...legs.map((leg) => Math.abs(longerThanTold(leg)))), MOST_THOUSANDTHS),
     behind,
     turning_back: Number(isBack),
   };
