@@ -44,7 +44,6 @@ from olr.confidence.weights import (
     ORDER,
     WEIGHTS,
     Differences,
-    differences_of,
     probabilities,
 )
 from olr.confidence.shown import Shown
@@ -84,45 +83,6 @@ def test_probabilities_by_hand() -> None:
         [one[0] / sum(one), one[1] / sum(one), other[0] / sum(other)]
     )
     assert told.of_none.tolist() == pytest.approx([one[2] / sum(one), other[1] / sum(other)])
-
-
-def test_what_weights_count() -> None:
-    """An answer with two places of three points, of which the second one costs 20 points more; one without; and one with a place of two points
-    on one line, which is a tenth longer than is told. Of points and legs the worst one counts, and distances in thousandths of the route.
-    """
-    terms = made_terms(
-        [2, 0, 1],
-        [3, 3, 2],
-        costs=[300, 900, 150],
-        turns_back=[True, False, False],
-        lines=[9, 4, 1],
-        distance=[100, 300, 200, 500, 400, 700, 600, 800],
-        sectors=[0, 0, 0, 1, 0, 2, 0, 0],
-        length=[4900, 4900, 4308, 5099, 5500],
-    )
-    found = differences_of(terms)
-    assert found.sizes.tolist() == [2, 1]
-    expected = [[3, 0, 0, 0, 1], [7, 2, 21, 600, 0], [14, 0, 100, 0, 0]]
-    assert found.of_place.tolist() == expected
-    assert found.of_none.tolist() == [[1, 1, 12, 98], [1, 0, 4, 74]]
-
-
-def test_a_route_without_a_length() -> None:
-    """Then a point's distance is told as of a route of a decimetre."""
-    terms = made_terms([1], [2], distance=[7, 5], least=[0], length=[0])
-    assert differences_of(terms).of_place.tolist() == [[700, 0, 0, 0, 0]]
-
-
-def test_the_most_that_is_counted() -> None:
-    """A point 20 km off, a leg that is far too long, and many points and lines."""
-    long = made_terms([1], [2], distance=[2_000_000, 0], length=[3_000_000], lines=[200_000])
-    found = differences_of(long)
-    assert found.of_place.tolist() == [[66, 0, 1000, 0, 0]]
-    assert found.of_none.tolist() == [[1, 0, 1264, 1000]]
-    many = differences_of(
-        made_terms([1], [103], distance=[5000] * 103, length=[0] * 102, least=[0] * 102)
-    )
-    assert many.of_place[0, 0] == 1000 and many.of_none[0].tolist() == [1, 98, 4, 0]
 
 
 def test_weights_of_a_file() -> None:
