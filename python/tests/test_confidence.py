@@ -147,7 +147,7 @@ def test_they_add_up_to_1_however_large_weights_are() -> None:
         draws.uniform(0, 1000, (int(sizes.sum()), len(OF_PLACE))),
         draws.uniform(0, 10, (50, len(OF_NONE))),
     )
-    for scale in (1e4, 1e7, 2.0**28):
+    for scale in (1e4, 1e7, 2.0**32):
         told = probabilities(draws.uniform(0, scale, len(WEIGHTS)), differences)
         sums = np.add.reduceat(told.of_place, differences.starts()) + told.of_none
         assert sums == pytest.approx(1) and (told.of_place >= 0).all()

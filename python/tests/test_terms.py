@@ -105,8 +105,8 @@ def test_what_weights_count() -> None:
 
 def test_a_route_without_a_length() -> None:
     """Then a point's distance is told as of a route of a decimetre."""
-    terms = made_terms([1], [2], distance=[7, 5], least=[0], length=[0])
-    assert differences_of(terms).of_place.tolist() == [[700, 0, 0, 0, 0]]
+    terms = made_terms([2], [2, 2], distance=[7, 5, 7, 5], least=[0, 0], length=[0, 1])
+    assert differences_of(terms).of_place[:, 0].tolist() == [700, 700]
 
 
 def test_the_most_that_is_counted() -> None:

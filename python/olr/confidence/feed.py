@@ -17,6 +17,7 @@ SAYING = (
     "share of places that turn back",
     "median share by which long legs differ from the middle of what it says",
     "standard deviation of that",
+    "probability of none of these that a tenth exceed",
 )
 """The numbers that say how many likeliest places are wrong. The others depend on a sender's habits at least as much."""
 FAR_END = 100
