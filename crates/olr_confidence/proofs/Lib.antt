@@ -1,0 +1,6 @@
+mod Floors
+mod Halved
+mod Together
+mod Missing
+mod Products
+mod Positive
