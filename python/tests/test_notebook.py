@@ -17,6 +17,7 @@ from xml.etree import ElementTree
 import olr
 from conftest import OF_PROGRAM, TOP, Program
 from olr.client.given_map import opened
+from olr.confidence.weights import ORDER
 from olr.matching.columns import ANSWERS
 from olr.matching.kept_columns import kept_columns
 from olr.model.answers import about
@@ -278,7 +279,7 @@ def test_a_confidence_for_other_tolerances(plain_town: olr.Map) -> None:
 def test_a_confidence_that_is_given(town: olr.Map) -> None:
     """Its probabilities are shown, and not those of the usual one."""
     usual = olr.Confidence.default()
-    other = replace(usual, weights={**usual.weights, "none": usual.weights["none"] + 5})
+    other = replace(usual, weights={**usual.weights, "none": usual.weights["none"] + 8 * ORDER})
     first, second = (
         olr.locate(table_of(SLOW), "ref", town, confidence=sure).loc[0, "probability"]
         for sure in (usual, other)

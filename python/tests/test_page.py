@@ -64,7 +64,7 @@ def test_it_shows_a_reference(opened: Browser) -> None:
     opened.click("#ask button.main")
     opened.value(DRAWN)
     panel = opened.value("document.getElementById('panel').innerText")
-    assert panel.startswith("Unique\n") and "Place 1" in panel and "probability 0.99" in panel
+    assert panel.startswith("Unique\n") and "Place 1" in panel and "probability 0.98" in panel
     assert opened.value("location.search") == f"?ref={REFERENCE}"
     assert (opened.errors, opened.loaded) == ([], [])
 
