@@ -41,7 +41,7 @@ cases.map((one) => {
   const { confidence } = judging;
   const scene = sceneOf({ ...one, ...answers, confidence, note, tables });
   const about = { fits, box: boxOf(scene), cursor: scene.entries.length ? scene.entries[0].cursor : null };
-  const notes = notesOf(one.legs && exactJson(one.legs), one.numbers.lowest);
+  const notes = notesOf(one.legs && exactJson(one.legs), one.numbers.lowest, tables.near);
   return { ...about, scene: Object.assign(scene, notes, linesDrawn(exactJson(one.lines))) };
 })
 """
@@ -139,7 +139,8 @@ class MapAsked(NamedTuple):
     def _legs(self, text: str, cursor: str, numbers: Mapping[str, int]) -> bytes:
         """What the program says of the legs of a matching."""
         tolerances = [word for name in TOLERANCES for word in (f"--{name}", str(numbers[name]))]
-        return self._said("legs", *tolerances, "--at", cursor, "--format", "geojson", "--", text)
+        words = [*tolerances, "--near", "15", "--at", cursor, "--format", "geojson"]
+        return self._said("legs", *words, "--", text)
 
     def _said(self, what: str, *words: str) -> bytes:
         """What the program prints about the map."""
@@ -249,16 +250,23 @@ def test_hostile_maps(alone: Scripts, program: Program, tmp_path: Path, seed: in
 
 
 OF_WORSE_CLASS = "shorter; the reference allows class 3 or better."
+NEARLY = "is one of several paths within 1.5 percent: another one is"
 
 
 @pytest.mark.parametrize(
     ("drawn", "note"),
     [
-        (block(middle=True), "Leg 2: another path is as short."),
-        (block(south=(600, 610)), "Leg 1: another path is 1.0 m longer."),
-        (block(south=(600, 611)), None),
-        (block(south=(600, 724), behind=120_000), "Leg 1: another path is 12.4 m longer."),
-        (block(south=(600, 725), behind=120_000), None),
+        (block(middle=True), f"Leg 2 {NEARLY} as short."),
+        (block(south=(600, 684)), f"Leg 1 {NEARLY} 8.4 m longer."),
+        (block(south=(600, 685)), None),
+        (block(south=(600, 2468), behind=120_000), f"Leg 1 {NEARLY} 186.8 m longer."),
+        (block(south=(600, 2469), behind=120_000), None),
+        (block((190, 190), (190, 196), before=10, behind=10), f"Leg 1 {NEARLY} 0.6 m longer."),
+        (
+            block((190, 190), (190, 197), before=10, behind=10),
+            f"Leg 1 {NEARLY.replace('1.5 percent', '1 m')} 0.7 m longer.",
+        ),
+        (block((190, 190), (190, 201), before=10, behind=10), None),
         (
             block(south=(600, 500), south_class=5),
             f"Leg 1: a road of class 5 would be 10.0 m {OF_WORSE_CLASS}",

@@ -10,7 +10,7 @@ import olr
 from conftest import Program
 from live_maps import Made, draw_made
 from olr.model.map_folder import LINES, read_map
-from olr.model.questions import NUMBERS, TOLERANCES, OfReference
+from olr.model.questions import NEAR_OF_PAGES, NUMBERS, TOLERANCES, OfReference
 from olr.model.reference import read_points, read_reference
 from olr.model.road_map import MICRODEGREE, Origin
 from olr.model.sources import IDS, write_origins
@@ -82,7 +82,7 @@ def in_metres(one: Disc, other: Disc) -> float:
 @pytest.mark.parametrize("what", [*NUMBERS, "legs"])
 def test_the_part_has_the_regions_of_all_questions(made: Made, what: OfReference) -> None:
     """Of the greatest tolerances: and of other paths, which are a little longer than these admit."""
-    options = Options.of(GREATEST | {"nearest": 64})
+    options = Options.of(GREATEST | {"nearest": 64, "near": NEAR_OF_PAGES})
     store = made.place / "discs.gpkg"
     make_store_of_folder(made.folder, store, force=True)
     with Store.open(store) as opened:

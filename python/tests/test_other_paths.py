@@ -3,6 +3,7 @@
 import json
 import pytest
 import signal
+from collections.abc import Sequence
 from pathlib import Path
 
 import olr
@@ -12,6 +13,10 @@ from conftest import REFERENCE, Program, Tools
 from olr.pages.view.scene import scene_of
 from olr.regions.making import make_store_of_folder
 from servers import path_of, serving, wait_until
+from test_live import SETTLED
+
+
+NEARLY = "is one of several paths within 1.5 percent: another one is"
 
 
 def along(lat: float) -> list[list[float]]:
@@ -21,29 +26,33 @@ def along(lat: float) -> list[list[float]]:
 
 def test_the_scene(program: Program, tmp_path: Path) -> None:
     """The other path of a leg of the first entry, and the leg, by latitude and longitude. Without one there is nothing."""
-    drawn = block()
+    drawn = block(south=(600, 684))
     with olr.Map(drawn.drawing.write(tmp_path / "map"), program=program.path) as asked:
         scene = scene_of(drawn.text, asked)
-        assert scene["notes"] == ["Leg 1: another path is as short."]
+        assert scene["notes"] == [f"Leg 1 {NEARLY} 8.4 m longer."]
         (drawn_others,) = scene["others"]
         assert drawn_others == {"leg": along(0.0005), "other": along(-0.0005)}
         scene = scene_of(REFERENCE, asked)
         assert (scene["notes"], scene["others"], scene["entries"]) == ([], [], [])
 
 
-def test_the_page(program: Program, tools: Tools, browser: Browser, tmp_path: Path) -> None:
-    """A line beside the first one makes a second entry, of which nothing is said."""
-    drawn = block(south=(602, 602))
+@pytest.mark.parametrize("live", [(), ("--live",)])
+def test_the_page(tools: Tools, browser: Browser, tmp_path: Path, live: Sequence[str]) -> None:
+    """A line beside the first one makes a second entry, of which nothing is said. So it is where the page asks by itself."""
+    drawn = block(south=(642, 642))
     drawn.drawing.line((0, 0), (1500, 100), (3000, 0), length=3500)
     folder, page = drawn.drawing.write(tmp_path / "map"), tmp_path / "page.html"
-    ended = tools.run("view", drawn.text, "--map", folder, "--out", page)
+    ended = tools.run("view", drawn.text, "--map", folder, "--out", page, *live)
     assert (ended.returncode, ended.stderr) == (0, "")
     drawn_paths = "document.querySelectorAll('path.other').length"
     corners = "document.querySelector('path.other').getAttribute('d').split('L').length"
     browser.open(page)
-    assert browser.value("document.querySelector('#notes').innerText") == (
-        "Leg 1: another path is 0.4 m longer."
-    )
+    if live:
+        browser.value(SETTLED)
+        # Where something is typed, digits are no keys.
+        browser.value("document.activeElement.blur()")
+    notes = "[...document.querySelectorAll('.entry')].map((it) => [...it.querySelectorAll('.note')].map((note) => note.innerText))"
+    assert browser.value(notes) == [[f"Leg 1 {NEARLY} 8.4 m longer."], []]
     legend = "document.querySelector('#samples').innerText.includes('another path, as short')"
     assert browser.value(legend)
     # Of the other path that stretch alone is drawn which the path itself leaves out.
@@ -58,7 +67,7 @@ def test_the_page(program: Program, tools: Tools, browser: Browser, tmp_path: Pa
 def test_the_scene_of_a_server(program: Program, tmp_path: Path, kind: str) -> None:
     """It has them with the tolerances that are asked with."""
     drawn = block(south_class=5)
-    drawn.drawing.line((3000, 0), (3500, 100), (4000, 0), length=1200)
+    drawn.drawing.line((3000, 0), (3500, 100), (4000, 0), length=1284)
     folder, store = drawn.drawing.write(tmp_path / "map"), tmp_path / "map.gpkg"
     make_store_of_folder(folder, store)
     shorter = block(south=(400, 500), south_class=5)
@@ -71,7 +80,7 @@ def test_the_scene_of_a_server(program: Program, tmp_path: Path, kind: str) -> N
             assert (scene["notes"], scene["others"]) == (expected["notes"], expected["others"])
             assert bool(scene["notes"]) == (text != REFERENCE)
         scene = json.loads(server.get(path_of("scene", drawn.text, lowest=0)).body)
-        assert scene["notes"] == ["Leg 1: another path is as short."]
+        assert scene["notes"] == [f"Leg 1 {NEARLY} 8.4 m longer."]
         assert scene["others"] == [{"leg": along(0.0005), "other": along(0.0001)}]
 
 
@@ -97,6 +106,6 @@ def test_other_bans_are_served(program: Program, tmp_path: Path) -> None:
         server.signal(signal.SIGHUP)
         wait_until(lambda: "were read anew" in server.log())
         after = json.loads(server.get(path_of("scene", drawn.text)).body)
-    assert before.pop("notes") == ["Leg 1: another path is as short."] and before.pop("others")
+    assert before.pop("notes") == [f"Leg 1 {NEARLY} as short."] and before.pop("others")
     assert (after.pop("notes"), after.pop("others")) == ([], [])
     assert before["entries"] == after["entries"]

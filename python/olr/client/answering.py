@@ -136,7 +136,7 @@ def candidates_counted(asked: Answering, refs: Iterable[str]) -> Iterator[int | 
     return (one if isinstance(one, int) else None for one in found)
 
 
-def drawn_legs(asked: Answering, ref: str, at: str) -> bytes:
+def drawn_legs(asked: Answering, ref: str, at: str, near: int) -> bytes:
     """The GeoJSON of the legs of a matching by its cursor, as the program has it. Raises as `Map.legs`."""
-    words = (*asked._words, "--format", "geojson")
+    words = (*asked._words, *words_of_number("near", NEAR, near), "--format", "geojson")
     return asked._line(Asked("legs", words), ref, "--at", at).answer

@@ -110,6 +110,8 @@ NEAR = Number(
     0, 100, 1, "thousandths", "tell another path of a leg that is longer by so much at most"
 )
 """A number of `legs`, and of `lines`."""
+NEAR_OF_PAGES = 15
+"""That with which pages ask for other paths of the likeliest place."""
 MOST_LINES = Number(1, 200_000, 20_000, "lines", "list so many")
 ALL = ChainMap(TOLERANCES, *NUMBERS.values())
 """The table of all numbers. What asks, shows or checks one is made of its row: options of commands, of addresses and of the page, arguments in

@@ -12,7 +12,6 @@ function pictureOf({ map: place, panel, tiles = null, onChoose = () => {} }) {
       <p id="verdict"></p>
       <p id="verdict-text"></p>
       <p id="looking"></p>
-      <ul id="notes"></ul>
       <p id="reference"></p>
       <p id="same" class="small" hidden>The program's own answer: <code id="command" class="command"></code></p>
     </header>
@@ -238,6 +237,8 @@ function pictureOf({ map: place, panel, tiles = null, onChoose = () => {} }) {
     text.append(title, made("div", parts.join(", ")));
     if (entry.facts.length) text.append(made("div", entry.facts.join(", "), "facts"));
     if (entry.reasons) text.append(made("div", `${entry.reasons}.`, "reasons small"));
+    // What is said of other paths is of the first entry.
+    if (!index) text.append(...(scene.notes || []).map((note) => made("div", note, "note small")));
     const rest = [`legs ${entry.legs}`, `lines ${entry.lines}`, `cursor ${entry.cursor}`];
     text.append(...rest.map((it) => made("div", it, "small")));
     label.append(input, text);
@@ -258,7 +259,6 @@ function pictureOf({ map: place, panel, tiles = null, onChoose = () => {} }) {
     find("reference").textContent = scene.reference;
     find("command").replaceChildren(...wordsOfCommand(scene.command));
     find("same").hidden = !scene.command;
-    fill("notes", items(scene.notes || []));
     const labels = scene.entries.map(labelOf);
     const rest = labels.filter((_, index) => !scene.entries[index].members);
     fill("entries", labels.filter((label) => !rest.includes(label)));
@@ -369,7 +369,7 @@ function pictureOf({ map: place, panel, tiles = null, onChoose = () => {} }) {
     [spots, legs, others, ranked] = [[], [], [], []];
     layers.forEach((layer) => layer.clearLayers());
     panel.querySelectorAll("#verdict, #verdict-text, #looking, #reference, #command, #offsets, #cut").forEach((element) => { element.textContent = ""; });
-    ["notes", "entries", "probability", "more-entries", "reasons", "remedies", "points"].forEach((id) => fill(id, []));
+    ["entries", "probability", "more-entries", "reasons", "remedies", "points"].forEach((id) => fill(id, []));
     ["fits", "why", "same"].forEach((id) => { find(id).hidden = true; });
   };
   const show = (next, index = next.entries.length ? 0 : -1) => {

@@ -7,7 +7,7 @@ from olr.asking.exchange import Asked
 from olr.model.box import Box
 from olr.model.fault import Fault
 from olr.model.profiles import PROFILE
-from olr.model.questions import NUMBERS, TOLERANCES, What, record_text
+from olr.model.questions import NEAR_OF_PAGES, NUMBERS, TOLERANCES, What, record_text
 from olr.serving.judging import listing_of, shaped
 from olr.serving.limits import Limits
 from olr.serving.makers import Makers
@@ -72,7 +72,8 @@ class Scenes(NamedTuple):
     def _legs(self, options: Options, text: bytes, cursor: str) -> Question:
         """The question about the legs of a matching, as GeoJSON."""
         tolerances = self._asked("candidates", options).words
-        words = (*tolerances, "--at", cursor, "--format", "geojson")
+        near = ("--near", str(NEAR_OF_PAGES))
+        words = (*tolerances, *near, "--at", cursor, "--format", "geojson")
         return Question(Asked("legs", words), text, None)
 
     def _asked(self, what: What, options: Options) -> Asked:

@@ -26,12 +26,13 @@ from olr.regions.store import Store
 
 WHOLE = 20_000
 """Lines of a map that is carried whole: a part would hardly be smaller as a file, and a page with all of it answers about any reference."""
-LONGER = 320
-"""Decimetres by which another path of a leg that the page draws may be longer than the longest one that any tolerances admit."""
+LONGER_PERCENT, LONGER_SLACK = 3, 150
+"""What is added to the greatest tolerances, for another path of a leg that the page draws: NEAR_OF_PAGES thousandths of 200 percent of an
+interval, and of the greatest slack in decimetres."""
 ANY = Options(
     radius=TOLERANCES["radius"].greatest,
-    percent=TOLERANCES["percent"].greatest,
-    slack=TOLERANCES["slack"].greatest + LONGER,
+    percent=TOLERANCES["percent"].greatest + LONGER_PERCENT,
+    slack=TOLERANCES["slack"].greatest + LONGER_SLACK,
     nearest=NUMBERS["why"]["nearest"].greatest,
 )
 """The greatest numbers: the region of `why` with them has those of all questions with any numbers, and other paths."""

@@ -2,7 +2,7 @@
 // All that the page draws of a reference, as data for `pictureOf`. Positions are [latitude, longitude] in degrees, ids are texts.
 //
 //   const scene = sceneOf({ reference, show, candidates, places, page, why, judgement, confidence, note, numbers, mapName, tiles, tables });
-//   Object.assign(scene, notesOf(legs, numbers.lowest), linesDrawn(lines));
+//   Object.assign(scene, notesOf(legs, numbers.lowest, tables.near), linesDrawn(lines));
 //
 // The answer to `legs` is about the matching of the first entry, `scene.entries[0].cursor`, and that to `lines` about `boxOf(scene)`.
 //

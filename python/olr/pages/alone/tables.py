@@ -3,15 +3,17 @@
 from typing import Any
 
 from olr.model.fault_table import ROWS
-from olr.model.questions import LIST, NUMBERS, TOLERANCES, defaults_of
+from olr.model.questions import LIST, NEAR_OF_PAGES, NUMBERS, TOLERANCES, defaults_of
 
 
 def tables() -> dict[str, Any]:
     """`faults` by the lines of docs/FAULTS.md, each its meaning and what to do; the program's defaults of all `tolerances`, and of the other
-    `numbers` and options of each question; and `longList`, with which all places are asked for."""
+    `numbers` and options of each question; `longList`, with which all places are asked for; and `near`, with which other paths are.
+    """
     return {
         "faults": ROWS,
         "tolerances": {name: number.default for name, number in TOLERANCES.items()},
         "numbers": {what: defaults_of(what) for what in NUMBERS},
         "longList": LIST,
+        "near": NEAR_OF_PAGES,
     }

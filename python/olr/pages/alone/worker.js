@@ -94,9 +94,9 @@ function sceneAt(options) {
     tables,
   });
   const [first = null] = scene.entries;
-  const legs = first && ask("legs", { at: first.cursor, format: "geojson" });
+  const legs = first && ask("legs", { near: tables.near, at: first.cursor, format: "geojson" });
   const lines = exactJson(throwing(program.around(boxOf(scene))));
-  return Object.assign(scene, notesOf(isFault(legs) ? null : legs, numbers.lowest), linesDrawn(lines));
+  return Object.assign(scene, notesOf(isFault(legs) ? null : legs, numbers.lowest, tables.near), linesDrawn(lines));
 }
 
 // As `places` are asked for whose answers are judged.

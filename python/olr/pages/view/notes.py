@@ -4,6 +4,7 @@ import json
 from collections.abc import Mapping
 from typing import Any
 
+from olr.model.questions import NEAR_OF_PAGES
 from olr.pages.view.paths import Path
 from olr.pages.view.sentences import metres
 from olr.pages.view.surroundings import Scene
@@ -11,8 +12,8 @@ from olr.pages.view.surroundings import Scene
 
 def notes_of(answer: bytes | None, lowest: int) -> Scene:
     """Two members of a scene, of the program's answer to `legs` as GeoJSON: `notes`, sentences on the legs in their order, and `others`, each
-    other path with that of its leg. Both are empty where nothing is known, and the answer is None. `lowest` is the tolerance with which it
-    was asked.
+    other path with that of its leg. Both are empty where nothing is known, and the answer is None. It was asked with NEAR_OF_PAGES, and
+    `lowest` is the tolerance with which it was asked.
     """
     notes: list[str] = []
     drawn: list[dict[str, Path]] = []
@@ -37,7 +38,9 @@ def _texts(leg: Mapping[str, Any], other: Mapping[str, Any] | None, lowest: int)
     number, shorter, texts = leg["leg"], leg["shorter"], []
     if other is not None:
         how = f"{metres(other['longer'])} longer" if other["longer"] else "as short"
-        texts.append(f"Leg {number}: another path is {how}.")
+        is_share = 1000 * other["longer"] <= NEAR_OF_PAGES * leg["length"]
+        within = f"{NEAR_OF_PAGES / 10:g} percent" if is_share else "1 m"
+        texts.append(f"Leg {number} is one of several paths within {within}: another one is {how}.")
     if shorter is not None:
         who = f"the reference and --lowest {lowest} allow" if lowest else "the reference allows"
         road = f"a road of class {shorter['class']} would be {metres(shorter['by'])} shorter"

@@ -13,7 +13,7 @@ from olr.model.answers import Candidate, Candidates, Matching, Page, Places, Ref
 from olr.model.asked_with import command_text
 from olr.model.fault import Fault
 from olr.model.pieces import Spot
-from olr.model.questions import What, listing
+from olr.model.questions import NEAR_OF_PAGES, What, listing
 from olr.pages.view import sentences
 from olr.pages.view.notes import notes_of
 from olr.pages.view.paths import path_drawn, spot_drawn
@@ -53,7 +53,7 @@ def _legs(text: str, asked: Map, scene: Scene) -> bytes | None:
     """What the program says of the legs of the first entry; None where there is none, or it says nothing."""
     cursor = first_cursor(scene)
     try:
-        return None if cursor is None else drawn_legs(asked, text, cursor)
+        return None if cursor is None else drawn_legs(asked, text, cursor, NEAR_OF_PAGES)
     except Fault:
         return None
 
