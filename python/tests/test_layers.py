@@ -9,7 +9,7 @@ from pathlib import Path
 
 PACKAGE = Path(__file__).resolve().parents[1] / "olr"
 LAYERS = (
-    "arrays content counts curve errors extras outputs processors progress setup signals sphere streams temporary version model",
+    "arrays content counts curve errors extras outputs processors progress reservoir setup signals sphere streams temporary version model",
     "asking physical",
     "checking client comparing confidence geometry importing matching messages osm regions running trials vector",
     "pages commands serving tools",
