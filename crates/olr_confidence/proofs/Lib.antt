@@ -4,3 +4,4 @@ mod Together
 mod Missing
 mod Products
 mod Positive
+mod Greatest

@@ -3,7 +3,7 @@ use Rattle.std.proofs.Common.{◌≡◌, ◌≤◌, ◌<◌, ℕ, ◌+◌, ◌-�
 use Rattle.std.proofs.lemmas.List.Sums.{sum_by-cons}
 use Rattle.olr_confidence.specs.Power.{power}
 use Rattle.olr_confidence.specs.Shares.{whole_of}
-use Rattle.olr_confidence.specs.Worths.{above_zero, below_zero, least_of}
+use Rattle.olr_confidence.specs.inner.Below.{above_zero, below_zero, least_of}
 
 power_of_zero : (below : ℕ) → below ≡ 0 → 0 < power below
 power_of_zero below is = subst (λ one. 0 < power one) (sym is) (omega arith)

@@ -42,10 +42,10 @@ pub bounded : (none whole : ℕ) (places numbers shares : List ℕ) → 0 < whol
 bounded none whole places numbers shares positive whole_is shares_are numbers_are =
     rw (numbers_are, shares_are, whole_is) (at_most_million none places positive)
 
-pub told : (none whole rest : ℕ) (places numbers shares : List ℕ) → 0 < whole_of none places
+pub together_with : (none whole rest : ℕ) (places numbers shares : List ℕ) → 0 < whole_of none places
     → whole ≡ whole_of none places → shares ≡ map (millionths_of whole) places
     → numbers ≡ shares → rest ≡ sum numbers → sum shares + (1000000 - rest) ≡ 1000000
-told none whole rest places numbers shares positive whole_is shares_are numbers_are rest_is =
+together_with none whole rest places numbers shares positive whole_is shares_are numbers_are rest_is =
     enough (rw (← numbers_are) rest_is) (rw (shares_are, whole_is) (at_most_million none places positive))
   where
     enough : rest ≡ sum shares → sum shares ≤ 1000000 → sum shares + (1000000 - rest) ≡ 1000000

@@ -6,3 +6,4 @@ pub mod Worths
 pub mod Reasons
 pub mod Asked
 pub mod Json
+pub mod inner

@@ -5,7 +5,7 @@ use Rattle.olr_detail.specs.Values.{MatchingDetailValue}
 use Rattle.olr_detail.specs.declared.candidate_detail.CandidateDetail.{CandidateDetail}
 use Rattle.olr_detail.specs.declared.leg_detail.LegDetail.{LegDetail}
 use Rattle.olr_confidence.specs.Terms.{AreTermsOf, greatest_by, missed_by}
-use Rattle.olr_confidence.specs.Worths.{above_zero}
+use Rattle.olr_confidence.specs.inner.Below.{above_zero}
 use Rattle.olr_confidence.specs.declared.confidence.Weights.{Weights}
 use Rattle.olr_confidence.specs.declared.reason.Reason.{Reason}
 use Rattle.olr_confidence.specs.declared.reason.ReasonKind.{ReasonKind}

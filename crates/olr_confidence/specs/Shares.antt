@@ -18,6 +18,6 @@ abbrev pub probabilities_of : ℕ → List ℕ → List ℕ
 probabilities_of none places = map (millionths_of (whole_of none places)) places
 
 -- the places are as probable, and none has the rest of a million
-pub record AreProbabilities (none : ℕ) (places : List ℕ) (told : Probabilities) : Type 0 where
-  pub places_are : told.places.items ≡ probabilities_of none places
-  pub together : sum told.places.items + told.none ≡ 1000000
+pub record AreProbabilities (none : ℕ) (places : List ℕ) (found : Probabilities) : Type 0 where
+  pub places_are : found.places.items ≡ probabilities_of none places
+  pub together : sum found.places.items + found.none ≡ 1000000

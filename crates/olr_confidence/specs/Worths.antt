@@ -1,6 +1,6 @@
 -- What a place and "none of these" are worth: a worth that is 2^24 greater is twice the share. A place
 -- is worth 0 less what it loses.
-use Rattle.std.specs.Prelude.{◌≡◌, ℕ, ◌+◌, ◌-◌, ◌*◌, min, ℤ, pos, ◌+ℤ◌, ◌*ℤ◌, nat_abs, if◌then◌else◌, int_le, List, [], ◌∷◌, map, find, nat_eq, Option, None, Some}
+use Rattle.std.specs.Prelude.{◌≡◌, ℕ, ◌+◌, ◌-◌, ◌*◌, ◌⊎◌, min, ℤ, pos, ◌+ℤ◌, ◌-ℤ◌, ◌*ℤ◌, ◌≤ℤ◌, neg_ℤ, nat_abs, if◌then◌else◌, List, [], ◌∷◌, All, Contains, map, find, nat_eq, Option, None, Some}
 use Rattle.olr_confidence.specs.Shares.{AreProbabilities}
 use Rattle.olr_confidence.specs.declared.confidence.Weights.{Weights}
 use Rattle.olr_confidence.specs.declared.shares.Probabilities.{Probabilities}
@@ -27,41 +27,41 @@ worth_of_none weights likeliest = weights.none
     +ℤ weights.none_lines *ℤ pos likeliest.lines
     +ℤ weights.none_length *ℤ pos likeliest.length
 
--- the least of numbers; 0 where there is none
-abbrev pub least_of : List ℕ → ℕ
-least_of [] = 0
-least_of (number ∷ []) = number
-least_of (number ∷ next ∷ rest) = min number (least_of (next ∷ rest))
-
--- how far a number lies above 0, or 0
-abbrev pub above_zero : ℤ → ℕ
-above_zero number = if int_le (pos 0) number then nat_abs number else 0
-
--- how far it lies below, or 0
-abbrev pub below_zero : ℤ → ℕ
-below_zero number = if int_le (pos 0) number then 0 else nat_abs number
-
--- how far none of these is ahead of the place that loses least
-abbrev pub lead_of : ℤ → List ℕ → ℤ
-lead_of none losses = none +ℤ pos (least_of losses)
-
--- how far places that lose this lie below the greatest worth of all
-abbrev pub places_below : ℤ → List ℕ → List ℕ
-places_below none losses =
-    map (λ lost. (lost - least_of losses) + above_zero (lead_of none losses)) losses
-
--- what the places lose
+-- what each place loses
 abbrev pub losses_of : Weights → List Terms → List ℕ
 losses_of weights places = map (lost_by weights (least_cost places)) places
 
--- How probable the places are, and that none of them is right. The likeliest place is the first one
--- with the least cost. Where there is no place, none is right.
-abbrev pub AreProbable : Weights → List Terms → Option Terms → Probabilities → Type 0
-AreProbable weights places None told = (told.places.items ≡ []) × (told.none ≡ 1000000)
-AreProbable weights places (Some likeliest) told = AreProbabilities
-    (below_zero (lead_of (worth_of_none weights likeliest) (losses_of weights places)))
-    (places_below (worth_of_none weights likeliest) (losses_of weights places)) told
+-- the worth of a place that loses this
+abbrev pub worth_of : ℕ → ℤ
+worth_of lost = neg_ℤ (pos lost)
 
--- the first place with the least cost
+-- the greatest worth: it is that of none of these or of a place, and none is greater
+pub record IsGreatest (none : ℤ) (places : List ℤ) (greatest : ℤ) : Type 0 where
+  pub is_one : (greatest ≡ none) ⊎ Contains places greatest
+  pub none_at_most : none ≤ℤ greatest
+  pub places_at_most : All (λ worth. worth ≤ℤ greatest) places
+
+-- how far a worth lies below the greatest one
+abbrev pub below : ℤ → ℤ → ℕ
+below greatest worth = nat_abs (greatest -ℤ worth)
+
+-- Probabilities are those of these worths, by how far each lies below the greatest one.
+pub record AreOfWorths (none : ℤ) (places : List ℤ) (found : Probabilities) : Type 0 where
+  pub greatest : ℤ
+  pub is_greatest : IsGreatest none places greatest
+  pub are_probabilities :
+      AreProbabilities (below greatest none) (map (below greatest) places) found
+
+-- the first place with the least cost: the likeliest one
 abbrev pub likeliest_of : List Terms → Option Terms
 likeliest_of places = find (λ (place : Terms). nat_eq place.cost (least_cost places)) places
+
+-- How probable the places are, and that none of them is right, where this is the likeliest place.
+-- Where there is no place, none is right.
+abbrev pub AreProbableBy : Weights → List Terms → Option Terms → Probabilities → Type 0
+AreProbableBy weights places None found = (found.places.items ≡ []) × (found.none ≡ 1000000)
+AreProbableBy weights places (Some likeliest) found = AreOfWorths (worth_of_none weights likeliest)
+    (map worth_of (losses_of weights places)) found
+
+abbrev pub AreProbable : Weights → List Terms → Probabilities → Type 0
+AreProbable weights places found = AreProbableBy weights places (likeliest_of places) found

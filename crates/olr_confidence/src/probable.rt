@@ -2,7 +2,8 @@
 
 ghost use Rattle.std.specs.Prelude.{◌≡◌, ◌+◌, ◌-◌, ◌<◌, ◌≤◌, ◌^◌, ℤ, pos, ◌+ℤ◌, nat_abs, All, IfOk, length, map, Some, option_map};
 ghost use Rattle.olr_confidence.specs.Shares.{AreProbabilities};
-ghost use Rattle.olr_confidence.specs.Worths.{AreProbable, above_zero, below_zero, lead_of, least_cost, least_of, likeliest_of, losses_of, lost_by, places_below};
+ghost use Rattle.olr_confidence.specs.Worths.{AreOfWorths, AreProbable, AreProbableBy, least_cost, likeliest_of, losses_of, lost_by, worth_of};
+ghost use Rattle.olr_confidence.specs.inner.Below.{above_zero, below_zero, lead_of, least_of, places_below};
 
 use crate::confidence::Weights;
 use crate::shares::{Probabilities, probabilities_of};
@@ -106,8 +107,21 @@ fn by_losses(alloc: Global, none: i64, losses: &[u64]) -> Result<Probabilities, 
     let least = least_of(losses);
     let (ahead, behind) = ahead_and_behind(none, least);
     let below = places_below(alloc, losses, least, ahead)?;
-    let told = probabilities_of(alloc, behind, &below)?;
-    Ok(told)
+    let found = probabilities_of(alloc, behind, &below)?;
+    Ok(found)
+}
+
+/// How probable places are that lose this, and that none of them is right, by their worths.
+#[tactic(auto, using(crate::proofs::Greatest::are_of_worths))]
+fn by_worths(alloc: Global, none: i64, losses: &[u64]) -> Result<Probabilities, AllocError>
+    requires none { nat_abs none ≤ 2 ^ 54 }
+    requires losses { All (λ lost. lost ≤ 2 ^ 61) losses.now }
+    requires count { length losses.now ≤ 1000 }
+    requires is_there { 0 < length losses.now }
+    ensures { IfOk result (AreOfWorths none (map worth_of losses.now)) }
+{
+    let found = by_losses(alloc, none, losses)?;
+    Ok(found)
 }
 
 /// How probable places are of which this is the likeliest, and that none of them is right.
@@ -119,11 +133,11 @@ fn with_likeliest(
 ) -> Result<Probabilities, AllocError>
     requires count { length places.now ≤ 1000 }
     requires is_there { 0 < length places.now }
-    ensures { IfOk result (AreProbable weights.now places.now (Some likeliest.now)) }
+    ensures { IfOk result (AreProbableBy weights.now places.now (Some likeliest.now)) }
 {
     let losses = losses_of(alloc, weights, places)?;
-    let told = by_losses(alloc, worth_of_none(weights, likeliest), &losses)?;
-    Ok(told)
+    let found = by_worths(alloc, worth_of_none(weights, likeliest), &losses)?;
+    Ok(found)
 }
 
 /// How probable places are, and that none of them is right, by what counts for and against each
@@ -139,7 +153,7 @@ pub fn probabilities(
     places: &[Terms],
 ) -> Result<Probabilities, AllocError>
     requires { length places.now ≤ 1000 }
-    ensures { IfOk result (AreProbable weights.now places.now (likeliest_of places.now)) }
+    ensures { IfOk result (AreProbable weights.now places.now) }
 {
     let Some(likeliest) = likeliest_of(places) else {
         return Ok(Probabilities {

@@ -1,6 +1,6 @@
 use Rattle.std.proofs.Common.{◌≡◌, ◌≤◌, ℕ, List, arith, map, sum, refl}
 use Rattle.olr_confidence.specs.Shares.{millionths_of, probabilities_of, whole_of}
-use Rattle.olr_confidence.proofs.Together.{bounded, told}
+use Rattle.olr_confidence.proofs.Together.{bounded, together_with}
 use Rattle.olr_confidence.proofs.shares.probabilities_of.Goals as goal
 
 pub sum_of-none-requires : goal.sum_of-none-requires
@@ -25,7 +25,7 @@ pub returns : goal.returns
 returns c = record {
   places_are = listed c.args.none c.whole_of-whole.result c.args.places.now
       c.in_ok-shares.shares.items c.whole_of-whole.ensures.whole c.in_ok-shares.ensures;
-  together = told c.args.none c.whole_of-whole.result c.sum_of-none.result c.args.places.now
+  together = together_with c.args.none c.whole_of-whole.result c.sum_of-none.result c.args.places.now
       c.deref.result.now c.in_ok-shares.shares.items c.requires.greatest
       c.whole_of-whole.ensures.whole c.in_ok-shares.ensures c.deref.ensures.value
       c.sum_of-none.ensures;
