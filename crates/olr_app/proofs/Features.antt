@@ -1,5 +1,5 @@
 -- The features of pages, one page after the other, as one collection.
-use Rattle.olr_app.proofs.Common.{Extras, LayersValue, Mark, PageValue, KeyValue, RoadMap, AreEntriesAt, Entry, IsEntryAt, AllZip, concat, Bool, true, false, ◌≡◌, ℕ, List, [], ◌∷◌, ◌++◌, Option, None, All-nil, append_assoc, ap, refl, sym, ◌∙◌, map}
+use Rattle.olr_app.proofs.Common.{Extras, LayersValue, Mark, PageValue, KeyValue, RoadMap, AreEntriesAt, Entry, IsEntryAt, AllZip, concat, Bool, true, false, ◌≡◌, ℕ, List, [], ◌∷◌, ◌++◌, Option, All-nil, append_assoc, ap, refl, sym, ◌∙◌, map}
 use Rattle.std.proofs.lemmas.List.{map-append}
 use Rattle.std.proofs.lemmas.List.Elements.{All-append}
 use Rattle.olr_app.specs.Matching.{IsCollectionOfPages, next_behind}
@@ -85,21 +85,21 @@ module _ (extras : Extras) (road : RoadMap) (layers : LayersValue) where
   module _ (mark : Option Mark) (next : Option KeyValue) (text : List ℕ) where
     page_of_features : (detail : Bool) (entries : List Entry) (all : List Feature)
         → AreFeatures detail extras road layers entries all
-        → text ≡ collection_text None all (page_members next mark)
+        → text ≡ collection_text [] all (page_members next mark)
         → IsPageAsAsked detail extras GeoJson road layers entries next mark text
     page_of_features false entries all is text_is =
-        text_is ∙ ap (λ l. collection_text None l (page_members next mark)) is
+        text_is ∙ ap (λ l. collection_text [] l (page_members next mark)) is
     page_of_features true entries all is text_is = record {
       all = is.0;
       are = is.1;
-      text_is = text_is ∙ ap (λ l. collection_text None l (page_members next mark)) is.2;
+      text_is = text_is ∙ ap (λ l. collection_text [] l (page_members next mark)) is.2;
     }
 
   -- the collection of the features of pages
   pub collected : (mark : Option Mark) (pages : List PageValue) (added output : List ℕ)
       → AreFeaturesOfKeys extras road layers (joined pages) added
       → ((all : List Feature) → added ≡ behind_commas feature_text all
-      → output ≡ collection_text None all (page_members (next_behind pages) mark))
+      → output ≡ collection_text [] all (page_members (next_behind pages) mark))
       → IsCollectionOfPages extras road layers mark pages output
   collected mark pages added output is makes = record {
     entries = is.entries;

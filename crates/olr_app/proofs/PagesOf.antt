@@ -328,7 +328,7 @@ module _ (extras : Extras) (road : RoadMap) (layers : LayersValue) (mark : Optio
       → AreAddedFor extras format road layers mark pages added
       → (next : Option KeyValue) (shown : Option Mark) → next ≡ next_behind pages → shown ≡ mark
       → ((all : List Feature) → added ≡ behind_commas feature_text all
-      → output ≡ collection_text None all (page_members next shown))
+      → output ≡ collection_text [] all (page_members next shown))
       → ArePagesIn format extras road layers mark pages output
   collection_of_pages Text added output same is next shown next_is shown_is makes = absurd cc
   collection_of_pages Json added output same is next shown next_is shown_is makes = absurd cc
@@ -336,5 +336,5 @@ module _ (extras : Extras) (road : RoadMap) (layers : LayersValue) (mark : Optio
       collected extras road layers mark pages added output
       (rw is.whole (of_pages extras road layers pages is.texts is.each))
       (λ all features. makes all features
-      ∙ ap (λ n. collection_text None all (page_members n shown)) next_is
-      ∙ ap (λ m. collection_text None all (page_members (next_behind pages) m)) shown_is)
+      ∙ ap (λ n. collection_text [] all (page_members n shown)) next_is
+      ∙ ap (λ m. collection_text [] all (page_members (next_behind pages) m)) shown_is)

@@ -38,7 +38,7 @@ matching_of None pages = first_of (joined pages)
 -- legs in a format, with the key of their matching: as GeoJSON, or else as JSON
 abbrev pub AreLegsIn : Format → RoadMap → Option KeyValue → List LegAlternatives → List ℕ → Type 0
 AreLegsIn GeoJson road key legs text =
-    text ≡ collection_text None (features_of_legs road 1 legs) (collection_members key)
+    text ≡ collection_text [] (features_of_legs road 1 legs) (collection_members key)
 AreLegsIn other road key legs text = IsJsonLine (legs_object road key legs) text
 
 -- the legs of the matching of a key; none where there is no matching

@@ -1,7 +1,7 @@
 -- The candidates of a reference's points. As text: for each point a row with their number, and then
 -- a row for each of them. As JSON: an object with an array of the candidates of each point. As
 -- GeoJSON: a collection of the candidates of all points. In detail with what speaks for each.
-use Rattle.std.specs.Prelude.{◌≡◌, ℕ, Bool, true, false, List, ◌++◌, None, length, codes, decimal}
+use Rattle.std.specs.Prelude.{◌≡◌, ℕ, Bool, true, false, List, [], ◌++◌, length, codes, decimal}
 use Rattle.std.specs.Prelude.{Result}
 use Rattle.serde_json.specs.Data.{Data, member, no_members, object}
 use Rattle.olr_app.specs.Common.{Extras, IsJsonLine, Reference, Tolerances, RoadMap}
@@ -56,7 +56,7 @@ listing_object on lists =
 
 -- a collection of candidates alone
 abbrev pub candidates_text : List Feature → List ℕ
-candidates_text features = collection_text None features (typed no_members)
+candidates_text features = collection_text [] features (typed no_members)
 
 -- ---- each format
 

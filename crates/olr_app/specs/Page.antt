@@ -1,5 +1,5 @@
 -- The text of a page of matchings, in a format, with what speaks for each matching or without.
-use Rattle.std.specs.Prelude.{◌≡◌, ℕ, Bool, true, false, List, Option, None, map}
+use Rattle.std.specs.Prelude.{◌≡◌, ℕ, Bool, true, false, List, [], Option, map}
 use Rattle.olr_app.specs.Common.{Extras, IsJsonLine, KeyValue, Mark, Reference, RoadMap, LayersValue}
 use Rattle.olr_geojson.specs.Collection.{collection_text}
 use Rattle.olr_geojson.specs.Feature.{Feature}
@@ -34,7 +34,7 @@ module _ (extras : Extras) (road : RoadMap) (reference : Reference) where
   IsPageIn Json entries next mark text =
       IsJsonLine (page_object shown_for entries next mark) text
   IsPageIn GeoJson entries next mark text =
-      text ≡ collection_text None (features_of entries) (page_members next mark)
+      text ≡ collection_text [] (features_of entries) (page_members next mark)
 
   -- the same with these details of the matchings: what speaks for each is shown with it
   abbrev pub IsPageTextWith :
@@ -43,7 +43,7 @@ module _ (extras : Extras) (road : RoadMap) (reference : Reference) where
   IsPageTextWith Json all next mark text =
       IsJsonLine (detailed_page shown_for all next mark) text
   IsPageTextWith GeoJson all next mark text =
-      text ≡ collection_text None (detailed_features_of all) (page_members next mark)
+      text ≡ collection_text [] (detailed_features_of all) (page_members next mark)
 
 -- the text of a page of these matchings in detail: with what speaks for each of them
 pub record IsPageInDetail (extras : Extras) (format : Format) (road : RoadMap)

@@ -1,5 +1,5 @@
 -- The lines that a request asks for have one output on a map.
-use Rattle.olr_app_laws.proofs.Common.{◌≡◌, ◌++◌, ℕ, Bool, List, None, RoadMap, Data, Format, GeoJson, Json, Text, codes, sym, ◌∙◌}
+use Rattle.olr_app_laws.proofs.Common.{◌≡◌, ◌++◌, ℕ, Bool, List, [], RoadMap, Data, Format, GeoJson, Json, Text, codes, sym, ◌∙◌}
 use Rattle.std.specs.Prelude.{map}
 use Rattle.serde_json.specs.Data.{boolean, member, no_members, object}
 use Rattle.serde_json.specs.Written.{compact_text}
@@ -20,7 +20,7 @@ object_of road shapes ranks more = object (
 
 collection_of : RoadMap → Bool → List ℕ → Bool → List ℕ
 collection_of road shapes ranks more =
-    collection_text None (map (line_feature road shapes) ranks) (members_behind more)
+    collection_text [] (map (line_feature road shapes) ranks) (members_behind more)
 
 same_text : (format : Format) (shapes : Bool) (road : RoadMap) (a b : LinesInBox)
     (output answer : List ℕ) → a.ranks.items ≡ b.ranks.items → a.more ≡ b.more

@@ -224,7 +224,7 @@ module _ (laws : Laws) where
         (ends_alike (λ n m. page_object (shown_for extras road reference) entries n m) next mark
         other (λ a b. refl) same) is its
     one_in GeoJson entries is its = is
-        ∙ ends_alike (λ n m. collection_text None (features_of extras road reference entries)
+        ∙ ends_alike (λ n m. collection_text [] (features_of extras road reference entries)
         (page_members n m)) next mark other (λ a b. refl) same ∙ sym its
 
     -- the same, where what speaks for each matching is shown with it
@@ -238,7 +238,7 @@ module _ (laws : Laws) where
         (ends_alike (λ n m. detailed_page (shown_for extras road reference) all n m) next mark other
         (λ a b. refl) same) is its
     one_in_detail GeoJson all is its = is
-        ∙ ends_alike (λ n m. collection_text None (detailed_features_of extras road reference all)
+        ∙ ends_alike (λ n m. collection_text [] (detailed_features_of extras road reference all)
         (page_members n m)) next mark other (λ a b. refl) same ∙ sym its
 
   -- what speaks for matchings is one thing for each

@@ -1,5 +1,5 @@
 -- Laws on the answer of one of many requests on a map, beside the one that a run for it prints.
-use Rattle.std.specs.Prelude.{◌≡◌, ℕ, ⊤, Bool, true, false, List, Option, None, Some, Ok, Err}
+use Rattle.std.specs.Prelude.{◌≡◌, ℕ, ⊤, Bool, true, false, List, [], Option, None, Some, Ok, Err}
 use Rattle.std.specs.Borrow.{Bor}
 use Rattle.olr_app.specs.Common.{Extras, KeyValue, Mark, Reference, RoadMap}
 use Rattle.olr_app.specs.Page.{shown_for}
@@ -31,8 +31,8 @@ IsSamePageAsAsked true = IsSamePageInDetail
 pub record IsSameCollection (mark other : Option Mark) (text again : List ℕ) : Type 0 where
   pub features : List Feature
   pub next : Option KeyValue
-  pub text_is : text ≡ collection_text None features (page_members next mark)
-  pub again_is : again ≡ collection_text None features (page_members next other)
+  pub text_is : text ≡ collection_text [] features (page_members next mark)
+  pub again_is : again ≡ collection_text [] features (page_members next other)
 
 -- Two outputs show the same page in a format, but for the cursor at its end: in the first one it has
 -- a mark, in the second one none. Of pages as text nothing is stated, since no question of many texts

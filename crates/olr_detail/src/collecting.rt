@@ -1,6 +1,6 @@
 //! Features and other members, as one collection.
 
-ghost use Rattle.std.specs.Prelude.{◌≡◌, ◌≢◌, IfOk, List, None, string_bytes};
+ghost use Rattle.std.specs.Prelude.{◌≡◌, ◌≢◌, IfOk, List, [], string_bytes};
 ghost use Rattle.serde_json.specs.Data.{Members, no_members, object};
 ghost use Rattle.serde_json.specs.Read.{max_depth};
 ghost use Rattle.olr_geojson.specs.Collection.{collection_text};
@@ -28,8 +28,8 @@ pub(crate) fn collected<T: ToJson<()>>(
     ensures { IfOk result (λ text. (all : List Feature) (others : Members) → others ≢ no_members
         → T.value tt members.now ≡ object others
         → features.now ≡ behind_commas feature_text all
-        → string_bytes text ≡ collection_text None all others) }
+        → string_bytes text ≡ collection_text [] all others) }
 {
     let others = to_json_text(alloc, &(), members)?;
-    collection(alloc, None, features, &others)
+    collection(alloc, "", features, &others)
 }

@@ -1,6 +1,6 @@
 //! The candidates of the points of a reference as features of GeoJSON.
 
-ghost use Rattle.std.specs.Prelude.{◌≡◌, ◌++◌, IfOk, List, None, OnOk, codes, string_bytes};
+ghost use Rattle.std.specs.Prelude.{◌≡◌, ◌++◌, IfOk, List, [], OnOk, codes, string_bytes};
 ghost use Rattle.serde_json.specs.Data.{no_members, object};
 ghost use Rattle.olr_candidates.specs.Points.{lists_of};
 ghost use Rattle.olr_geojson.specs.Collection.{collection_text};
@@ -189,7 +189,7 @@ pub fn listing_collection(
     on: &ShownMap<'_>,
     lists: &[ArrayVec<Candidate, MAX_CANDIDATES>],
 ) -> Result<String, NoMemory>
-    ensures { IfOk result (λ text. string_bytes text ≡ collection_text None
+    ensures { IfOk result (λ text. string_bytes text ≡ collection_text []
         (listing_features (candidate_feature (map_shown on.now)) 1 (lists_of lists.now))
         (typed no_members)) }
 {
@@ -208,7 +208,7 @@ pub fn listing_collection_in_detail(
     on: &ShownMap<'_>,
     details: &[PointDetails],
 ) -> Result<String, NoMemory>
-    ensures { IfOk result (λ text. string_bytes text ≡ collection_text None
+    ensures { IfOk result (λ text. string_bytes text ≡ collection_text []
         (listing_features (candidate_in_detail (map_shown on.now)) 1 (details_of details.now))
         (typed no_members)) }
 {

@@ -1,6 +1,6 @@
 //! The matchings of a page as features of GeoJSON.
 
-ghost use Rattle.std.specs.Prelude.{◌≡◌, ◌++◌, All, IfOk, List, None, OnOk, codes, length, option_map, string_bytes};
+ghost use Rattle.std.specs.Prelude.{◌≡◌, ◌++◌, All, IfOk, List, [], OnOk, codes, length, option_map, string_bytes};
 ghost use Rattle.olr_binary.specs.Reference.{IsReference};
 ghost use Rattle.olr_geojson.specs.Collection.{collection_text};
 ghost use Rattle.olr_geojson.specs.Feature.{Feature, feature_text};
@@ -156,7 +156,7 @@ pub fn page_collection(
         let next = option_map (λ key. key.now) next.entry in
         IfOk result (λ text. (all : List Feature)
         → features.now ≡ behind_commas feature_text all
-        → string_bytes text ≡ collection_text None all (page_members next mark)) }
+        → string_bytes text ≡ collection_text [] all (page_members next mark)) }
 {
     let members = PageMembers {
         next: next_cursor(next, mark),

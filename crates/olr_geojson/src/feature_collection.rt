@@ -3,24 +3,12 @@
 ghost use Rattle.std.specs.Prelude.{◌≡◌, ◌++◌, ◌≢◌, ◌<◌, ◌∷◌, [], ℕ, IfOk, List, OnOk, codes, string_bytes, true};
 ghost use Rattle.serde_json.specs.Data.{Members, no_members, object};
 ghost use Rattle.serde_json.specs.Written.{compact_text, members_text};
-ghost use Rattle.olr_geojson.specs.Collection.{collection_text, cut_text};
+ghost use Rattle.olr_geojson.specs.Collection.{collection_text};
 ghost use Rattle.olr_geojson.specs.Feature.{Feature, feature_text, features_text};
 ghost use Rattle.olr_geojson.specs.Joined.{behind_commas};
 
 use olr_base::NoMemory;
 use std::alloc::Global;
-
-/// Adds the member `cut`, and a comma, where there is one.
-fn push_cut(cut: Option<bool>, out: &mut String) -> Result<(), NoMemory>
-    ensures { OnOk result (string_bytes out.new ≡ string_bytes out.old ++ cut_text cut) }
-{
-    match cut {
-        Some(true) => out.push_str("\"cut\":true,")?,
-        Some(false) => out.push_str("\"cut\":false,")?,
-        None => {}
-    }
-    Ok(())
-}
 
 /// A text without its first character, if this is that one, which is ASCII.
 fn behind(text: &str, first: char) -> &str
@@ -53,7 +41,7 @@ fn push_others(others: &str, out: &mut String) -> Result<(), NoMemory>
 
 /// Adds all members.
 fn push_members(
-    cut: Option<bool>,
+    before: &str,
     features: &str,
     others: &str,
     out: &mut String,
@@ -61,18 +49,18 @@ fn push_members(
     ensures { OnOk result ((all : List Feature) (members : Members) → members ≢ no_members
         → features.now ≡ behind_commas feature_text all
         → others.now ≡ compact_text (object members)
-        → string_bytes out.new ≡ string_bytes out.old ++ cut_text cut
+        → string_bytes out.new ≡ string_bytes out.old ++ before.now
         ++ codes "\"features\":[" ++ features_text all ++ codes "]" ++ members_text true members) }
 {
-    push_cut(cut, out)?;
+    out.push_str(before)?;
     out.push_str("\"features\":[")?;
     push_features(features, out)?;
     out.push(']')?;
     push_others(others, out)
 }
 
-/// The line of a collection: the member `cut` where there is one, the features, the other members,
-/// and a line feed. The features are the text that [`push_feature`](crate::push_feature) made of an
+/// The line of a collection: the members before the features, the features, the other members, and a
+/// line feed. The first ones are a text, in which a comma stands behind each. The features are the text that [`push_feature`](crate::push_feature) made of an
 /// empty one. The others are the compact JSON text of an object with one member at least, as `type`,
 /// and their names come after `features`.
 ///
@@ -81,22 +69,23 @@ fn push_members(
 /// [`NoMemory`] where the allocator refused memory.
 pub fn collection(
     alloc: Global,
-    cut: Option<bool>,
+    before: &str,
     features: &str,
     others: &str,
 ) -> Result<String, NoMemory>
     ensures { IfOk result (λ text. (all : List Feature) (members : Members) → members ≢ no_members
         → features.now ≡ behind_commas feature_text all
         → others.now ≡ compact_text (object members)
-        → string_bytes text ≡ collection_text cut all members) }
+        → string_bytes text ≡ collection_text before.now all members) }
 {
     let room = features
         .len()
+        .saturating_add(before.len())
         .saturating_add(others.len())
         .saturating_add(64);
     let mut text = String::with_capacity(alloc, room)?;
     text.push('{')?;
-    push_members(cut, features, others, &mut text)?;
+    push_members(before, features, others, &mut text)?;
     text.push('\n')?;
     Ok(text)
 }
@@ -123,7 +112,7 @@ mod tests {
     #[test]
     fn collections(rt: HostRuntime) -> Result<(), Fail> {
         let alloc = rt.alloc();
-        let none = collection(alloc, None, "", "{\"type\":\"FeatureCollection\"}")?;
+        let none = collection(alloc, "", "", "{\"type\":\"FeatureCollection\"}")?;
         assert_eq!(rt;
             none.as_str(),
             "{\"features\":[],\"type\":\"FeatureCollection\"}\n"
@@ -139,7 +128,7 @@ mod tests {
         push_feature(&mut features, &Geometry::Missing, "{}")?;
         let some = collection(
             alloc,
-            Some(false),
+            "\"cut\":false,",
             &features,
             "{\"looked\":1,\"next\":null}",
         )?;

@@ -1,6 +1,6 @@
 //! The legs of a matching as features of GeoJSON.
 
-ghost use Rattle.std.specs.Prelude.{◌≡◌, ◌++◌, IfOk, None, OnOk, codes, option_map, string_bytes};
+ghost use Rattle.std.specs.Prelude.{◌≡◌, ◌++◌, IfOk, [], OnOk, codes, option_map, string_bytes};
 ghost use Rattle.serde_json.specs.Data.{Data, object, string};
 ghost use Rattle.serde_json.specs.Written.{compact_text};
 ghost use Rattle.olr_geojson.specs.Collection.{collection_text};
@@ -178,7 +178,7 @@ impl ToJson<()> for LegsMembers {
 /// [`NoMemory`] where the allocator refused memory.
 #[tactic(auto, using(olr_text::proofs::Nesting::items_nest, olr_text::proofs::Nesting::option_nests))]
 pub fn legs_geojson(alloc: Global, map: &Map, shown: &ShownLegs<'_>) -> Result<String, NoMemory>
-    ensures { IfOk result (λ text. string_bytes text ≡ collection_text None
+    ensures { IfOk result (λ text. string_bytes text ≡ collection_text []
         (features_of_legs map.now 1 shown.now.legs.now)
         (collection_members (option_map (λ key. key.now) shown.now.matching))) }
 {
@@ -193,6 +193,6 @@ pub fn legs_geojson(alloc: Global, map: &Map, shown: &ShownLegs<'_>) -> Result<S
         matching: cursor_of(shown.matching),
     };
     let others = to_json_text(alloc, &(), &members)?;
-    let text = collection(alloc, None, &features, &others)?;
+    let text = collection(alloc, "", &features, &others)?;
     Ok(text)
 }

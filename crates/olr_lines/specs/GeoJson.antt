@@ -1,5 +1,5 @@
 -- Lines of a map as features of GeoJSON.
-use Rattle.std.specs.Prelude.{ℕ, Bool, List, Option, None, Some, codes, map, slice_get}
+use Rattle.std.specs.Prelude.{ℕ, Bool, List, [], Option, None, Some, codes, map, slice_get}
 use Rattle.serde_json.specs.Data.{Members, boolean, member, no_members, string}
 use Rattle.olr_geojson.specs.Collection.{collection_text}
 use Rattle.olr_geojson.specs.Feature.{Feature}
@@ -27,5 +27,5 @@ members_behind more = member (codes "more") (boolean more) (
 
 -- the line of a collection of lines of a map, a feature for each
 abbrev pub lines_collection : RoadMap → Bool → LinesInBox → List ℕ
-lines_collection road shapes found = collection_text None
+lines_collection road shapes found = collection_text []
     (map (line_feature road shapes) found.ranks.items) (members_behind found.more)

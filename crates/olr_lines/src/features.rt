@@ -82,6 +82,6 @@ pub fn lines_collection(
 {
     let features = features_of(&LinesOn { alloc, map, shapes }, &found.ranks)?;
     let others = to_json_text(alloc, &(), &LinesMembers { more: found.more })?;
-    let text = collection(alloc, None, &features, &others)?;
+    let text = collection(alloc, "", &features, &others)?;
     Ok(text)
 }
