@@ -5,3 +5,4 @@ mod Missing
 mod Products
 mod Positive
 mod Greatest
+mod Once

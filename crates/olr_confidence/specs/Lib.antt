@@ -6,4 +6,5 @@ pub mod Worths
 pub mod Reasons
 pub mod Asked
 pub mod Json
+pub mod Laws
 pub mod inner

@@ -14,12 +14,15 @@
 //! - [`probable`]: [`probabilities`], all of this from terms on.
 //! - [`reason`], [`reasons`]: why a place is no more probable than it is.
 //! - [`json`]: the JSON of reasons, and of what else is told with probabilities.
+//!
+//! Beside them, [`laws`] says that all of this is one thing.
 #![tactic(auto)]
 
 mod asked;
 mod confidence;
 mod file;
 mod json;
+mod laws;
 mod powers;
 mod probable;
 mod reason;
@@ -32,6 +35,7 @@ mod worths;
 pub use asked::{AskedName, asked_with, others_of};
 pub use confidence::{AskedNumbers, Confidence, MapRange, Weights};
 pub use file::ConfidenceError;
+pub use laws::one_probability;
 pub use powers::entries_are_floors;
 pub use probable::probabilities;
 pub use reason::{Reason, ReasonKind};

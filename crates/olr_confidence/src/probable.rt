@@ -99,7 +99,6 @@ fn ahead_and_behind(none: i64, least: u64) -> (u64, u64)
 fn by_losses(alloc: Global, none: i64, losses: &[u64]) -> Result<Probabilities, AllocError>
     requires none { nat_abs none ≤ 2 ^ 54 }
     requires losses { All (λ lost. lost ≤ 2 ^ 61) losses.now }
-    requires count { length losses.now ≤ 1000 }
     requires is_there { 0 < length losses.now }
     ensures { IfOk result (AreProbabilities (below_zero (lead_of none losses.now))
         (places_below none losses.now)) }
@@ -116,7 +115,6 @@ fn by_losses(alloc: Global, none: i64, losses: &[u64]) -> Result<Probabilities, 
 fn by_worths(alloc: Global, none: i64, losses: &[u64]) -> Result<Probabilities, AllocError>
     requires none { nat_abs none ≤ 2 ^ 54 }
     requires losses { All (λ lost. lost ≤ 2 ^ 61) losses.now }
-    requires count { length losses.now ≤ 1000 }
     requires is_there { 0 < length losses.now }
     ensures { IfOk result (AreOfWorths none (map worth_of losses.now)) }
 {
@@ -131,7 +129,6 @@ fn with_likeliest(
     places: &[Terms],
     likeliest: &Terms,
 ) -> Result<Probabilities, AllocError>
-    requires count { length places.now ≤ 1000 }
     requires is_there { 0 < length places.now }
     ensures { IfOk result (AreProbableBy weights.now places.now (Some likeliest.now)) }
 {
@@ -152,7 +149,6 @@ pub fn probabilities(
     weights: &Weights,
     places: &[Terms],
 ) -> Result<Probabilities, AllocError>
-    requires { length places.now ≤ 1000 }
     ensures { IfOk result (AreProbable weights.now places.now) }
 {
     let Some(likeliest) = likeliest_of(places) else {

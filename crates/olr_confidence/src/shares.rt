@@ -17,31 +17,30 @@ pub struct Probabilities {
 }
 
 /// All shares together.
-fn whole_of(none: u64, places: &[u64]) -> u64
+fn whole_of(none: u64, places: &[u64]) -> u128
     requires none { none ≤ 2 ^ 63 }
     requires places { All (λ below. below ≤ 2 ^ 63) places.now }
-    requires count { length places.now ≤ 1000 }
     ensures whole { result ≡ whole_of none places.now }
     ensures at_most { result ≤ 2 ^ 31 * (length places.now + 1) }
 {
-    let mut whole = power(none);
+    let mut whole = u128::from(power(none));
     for below in places {
-        whole += power(*below);
+        whole += u128::from(power(*below));
     }
     whole
 }
 
 /// A share in the whole, in millionths.
-fn millionths_of(whole: u64, below: u64) -> u64
+fn millionths_of(whole: u128, below: u64) -> u64
     requires whole { 0 < whole }
     requires below { below ≤ 2 ^ 63 }
     ensures { result ≡ millionths_of whole below }
 {
-    1_000_000 * power(below) / whole
+    (1_000_000 * u128::from(power(below)) / whole) as u64
 }
 
 /// The shares of places in the whole, in millionths.
-fn all_millionths(alloc: Global, whole: u64, places: &[u64]) -> Result<Vec<u64>, AllocError>
+fn all_millionths(alloc: Global, whole: u128, places: &[u64]) -> Result<Vec<u64>, AllocError>
     requires whole { 0 < whole }
     requires places { All (λ below. below ≤ 2 ^ 63) places.now }
     ensures { IfOk result (λ shares. shares.items ≡ map (millionths_of whole) places.now) }
@@ -75,7 +74,6 @@ pub(crate) fn probabilities_of(
 ) -> Result<Probabilities, AllocError>
     requires none { none ≤ 2 ^ 63 }
     requires places { All (λ below. below ≤ 2 ^ 63) places.now }
-    requires count { length places.now ≤ 1000 }
     requires greatest { 0 < whole_of none places.now }
     ensures { IfOk result (AreProbabilities none places.now) }
 {

@@ -9,6 +9,7 @@ use Rattle.olr_places.specs.declared.ending.Ending.TheVariants.{Beyond}
 use Rattle.olr_places.specs.declared.limits.PlaceLimits.{PlaceLimits}
 use Rattle.olr_likely.specs.Order.{AreShown, least_cost}
 use Rattle.olr_likely.specs.declared.answer.LikelyPlaces.{LikelyPlaces}
+use Rattle.olr_likely.specs.declared.chances.Chances.{Chances}
 use Rattle.olr_likely.specs.declared.ranked.RankedPlace.{RankedPlace}
 
 -- the margin: the gap of the second place that was looked at, if there is one
@@ -39,14 +40,16 @@ is_cut within (place ∷ places) (Some last) =
     nat_le (6 * last.total) (least_cost (place ∷ places) + 30 * within)
 
 -- What is answered of the places that were looked at, by how many matchings these were, why looking
--- ended, and the key behind which it was cut off.
+-- ended, the key behind which it was cut off, and what a confidence says of them.
 pub record IsAnswerOf (limits : PlaceLimits) (looked : ℕ) (ending : Ending)
-    (next : Option KeyValue) (places : List RankedPlace) (likely : LikelyPlaces) : Type 0 where
+    (next : Option KeyValue) (chances : Option Chances) (places : List RankedPlace)
+    (likely : LikelyPlaces) : Type 0 where
   pub shown : AreShown limits places likely.places.items
   pub looked_is : likely.looked ≡ looked
   pub next_is : likely.next ≡ next
   pub margin_is : likely.margin ≡ second_gap places
   pub cut_is : likely.cut ≡ is_cut limits.within places next
+  pub chances_are : likely.chances ≡ chances
   pub verdict_is : likely.verdict
       ≡ verdict_by looked (count_listed limits.within places)
       (ending_within limits.within places ending)

@@ -1,8 +1,11 @@
 pub mod Ranked
 pub mod Order
+pub mod Values
+pub mod Chances
 pub mod Answer
 pub mod Finding
 pub mod Showing
+pub mod Extending
 pub mod Json
 pub mod GeoJson
 pub mod Text

@@ -13,6 +13,7 @@ use Rattle.olr_places.specs.declared.limits.PlaceLimits.{PlaceLimits}
 use Rattle.olr_likely.specs.Finding.{AreLikelyPlaces}
 use Rattle.olr_likely.specs.Order.{AreShown, IsLikelier, least_cost}
 use Rattle.olr_likely.specs.declared.answer.LikelyPlaces.{LikelyPlaces}
+use Rattle.olr_likely.specs.declared.asked.AskedPlaces.{AskedPlaces}
 use Rattle.olr_likely.specs.declared.ranked.RankedPlace.{RankedPlace}
 
 -- no place has a lesser cost than the least one
@@ -54,10 +55,10 @@ pub record IsBeyond (within least : ℕ) (matchings : List Entry) (key : KeyValu
 -- Where looking was cut off behind a key, and no place is said to be missing, no matching behind
 -- this key would be shown.
 abbrev pub NoneIsMissing : Type 0
-NoneIsMissing = (limits : PlaceLimits) (road : RoadMap) (layers : LayersValue)
+NoneIsMissing = (asked : AskedPlaces) (road : RoadMap) (layers : LayersValue)
     (likely : LikelyPlaces) (last key : KeyValue) (matched : Matched) (turns_back : Bool)
-    (are : AreLikelyPlaces limits road layers likely)
+    (are : AreLikelyPlaces asked road layers likely)
     → AreLayersOn road layers → likely.cut ≡ false → likely.next ≡ Some last
     → IsKey layers.penalties key → IsMatchedBy road layers key matched → IsBefore last key
-    → IsBeyond limits.within (least_cost are.places) are.looked.matchings key
+    → IsBeyond asked.limits.within (least_cost are.places) are.looked.matchings key
     (cost_of road matched turns_back)

@@ -1,13 +1,7 @@
--- Places as they are shown: in the order of totals or in the likely order, with what speaks for
--- them or without.
+-- Places as they are shown: in the order of totals or in the likely order.
 use Rattle.std.specs.Prelude.{◌≡◌, List, map, None, Some}
-use Rattle.std.specs.List.{AllZip}
-use Rattle.olr_binary.specs.declared.reference.Reference.{Reference}
-use Rattle.olr_candidates.specs.declared.tolerances.Tolerances.{Tolerances}
 use Rattle.olr_road.specs.RoadMap.{RoadMap}
 use Rattle.olr_matching.specs.Layers.{LayersValue}
-use Rattle.olr_detail.specs.MatchingDetail.{IsMatchingDetail}
-use Rattle.olr_detail.specs.declared.matching_detail.MatchingDetail.{MatchingDetail}
 use Rattle.olr_places.specs.Places.{IsOpenerAt, verdict_in}
 use Rattle.olr_places.specs.Looking.{key_behind}
 use Rattle.olr_places.specs.declared.opener.Opener.{Opener}
@@ -17,11 +11,9 @@ use Rattle.olr_likely.specs.declared.ranked.RankedPlace.{RankedPlace}
 use Rattle.olr_likely.specs.declared.showing.ShownPlace.{ShownPlace}
 use Rattle.olr_likely.specs.declared.showing.ShownPlaces.{ShownPlaces}
 
--- ---- in either order
-
 -- the place of an opener, in the order of totals
 abbrev pub shown_by_total : Opener → ShownPlace
-shown_by_total opener = record { opener = opener; likely = None; detail = None }
+shown_by_total opener = record { opener = opener; likely = None; detail = None; told = None }
 
 -- a place in the likely order, which shows its rank and its cost
 abbrev pub shown_by_cost : RankedPlace → ShownPlace
@@ -29,6 +21,7 @@ shown_by_cost place = record {
   opener = place.opener;
   likely = Some (record { rank = place.rank; cost = place.likely.cost });
   detail = None;
+  told = None;
 }
 
 -- what is shown of places in the order of totals
@@ -39,6 +32,7 @@ pub record AreShownByTotal (places : Places) (shown : ShownPlaces) : Type 0 wher
   pub next_is : shown.next ≡ key_behind places.ending places.last
   pub cut_is : shown.cut ≡ None
   pub verdict_is : shown.verdict ≡ verdict_in places
+  pub told_is : shown.told ≡ None
 
 -- and in the likely order
 pub record AreShownByCost (likely : LikelyPlaces) (shown : ShownPlaces) : Type 0 where
@@ -48,32 +42,8 @@ pub record AreShownByCost (likely : LikelyPlaces) (shown : ShownPlaces) : Type 0
   pub next_is : shown.next ≡ likely.next
   pub cut_is : shown.cut ≡ Some likely.cut
   pub verdict_is : shown.verdict ≡ likely.verdict
+  pub told_is : shown.told ≡ None
 
--- ---- in detail
-
--- a place with what speaks for the matching that opened it
-pub record IsPlaceInDetail (tolerances : Tolerances) (reference : Reference) (road : RoadMap)
-    (place detailed : ShownPlace) : Type 0 where
-  pub detail : MatchingDetail
-  pub is_detail : IsMatchingDetail tolerances reference road place.opener.matched
-      place.opener.route.items detail
-  pub detailed_is : detailed ≡ record place { detail = Some detail }
-
-module _ (road : RoadMap) (layers : LayersValue) where
-  -- the place was opened by a matching of these layers
-  abbrev pub IsShownAt : ShownPlace → Type 0
-  IsShownAt place = IsOpenerAt road layers place.opener
-
-  -- places with what speaks for each
-  abbrev pub AreInDetail : List ShownPlace → List ShownPlace → Type 0
-  AreInDetail places detailed =
-      AllZip (IsPlaceInDetail layers.tolerances layers.reference road) places detailed
-
-  -- the same with what speaks for each place
-  pub record IsInDetail (shown detailed : ShownPlaces) : Type 0 where
-    pub places : AreInDetail shown.places.items detailed.places.items
-    pub looked_is : detailed.looked ≡ shown.looked
-    pub margin_is : detailed.margin ≡ shown.margin
-    pub next_is : detailed.next ≡ shown.next
-    pub cut_is : detailed.cut ≡ shown.cut
-    pub verdict_is : detailed.verdict ≡ shown.verdict
+-- the place was opened by a matching of these layers
+abbrev pub IsShownAt : RoadMap → LayersValue → ShownPlace → Type 0
+IsShownAt road layers place = IsOpenerAt road layers place.opener

@@ -4,6 +4,7 @@ ghost use Rattle.std.specs.Prelude.{◌≡◌, IfOk, option_map};
 ghost use Rattle.olr_likely.specs.Answer.{IsAnswerOf, count_listed, ending_within, is_cut, second_gap};
 ghost use Rattle.olr_likely.specs.Ranked.{AreNumbered};
 
+use crate::chances::Chances;
 use crate::order::{least_cost, shown};
 use crate::ranked::RankedPlace;
 use olr_base::NoMemory;
@@ -26,6 +27,8 @@ pub struct LikelyPlaces {
     pub cut: bool,
     /// Whether the match is unique.
     pub verdict: Verdict,
+    /// What a confidence says of all that were looked at, if one is given.
+    pub chances: Option<Chances>,
 }
 
 /// The gap of the second place that was looked at.
@@ -73,16 +76,18 @@ fn is_cut(places: &[RankedPlace], next: Option<&Key>, within: u32) -> bool
 }
 
 /// What is answered of all places that were looked at, which are given by rank: by how many
-/// matchings were looked at, why looking ended, and the key behind which it was cut off.
+/// matchings were looked at, why looking ended, the key behind which it was cut off, and what a
+/// confidence says of them.
 pub(crate) fn answer_of(
     places: Vec<RankedPlace>,
     looked: u32,
     ending: Ending,
     next: Option<Key>,
     limits: &PlaceLimits,
+    chances: Option<Chances>,
 ) -> Result<LikelyPlaces, NoMemory>
     requires { AreNumbered places.items }
-    ensures { IfOk result (IsAnswerOf limits.now looked ending next places.items) }
+    ensures { IfOk result (IsAnswerOf limits.now looked ending next chances places.items) }
 {
     let margin = second_gap(&places);
     let cut = is_cut(&places, next.as_ref(), limits.within);
@@ -95,5 +100,6 @@ pub(crate) fn answer_of(
         margin,
         cut,
         verdict,
+        chances,
     })
 }

@@ -1,88 +1,71 @@
-//! The places of a reference as they are asked for: in either order, in detail or not.
+//! The places of a reference as they are asked for: in either order, and with more where more is asked
+//! for.
 
-ghost use Rattle.std.specs.Prelude.{All, IfOk};
+ghost use Rattle.std.specs.Prelude.{IfOk};
 ghost use Rattle.olr_matching.specs.Layers.{AreLayersOn};
 ghost use Rattle.olr_matching.specs.Searches.{AreSearchesOn};
-ghost use Rattle.olr_likely.specs.Asking.{AreAsked, AreFoundByCost, AreFoundByTotal, AreFoundIn};
-ghost use Rattle.olr_likely.specs.Showing.{IsShownAt};
+ghost use Rattle.olr_likely.specs.Asking.{AreAsked, AreAskedByCost, AreAskedByTotal};
 
+use crate::asked::{AskedPlaces, PlaceOrder};
+use crate::extending::{More, extended};
 use crate::finding::likely_places;
-use crate::showing::{ShownPlaces, in_detail, shown_by_cost, shown_by_total};
+use crate::showing::{ShownPlaces, shown_by_cost, shown_by_total};
 use olr_base::NoMemory;
 use olr_matching::{Layers, Searches};
-use olr_places::{PlaceLimits, places_of};
+use olr_places::places_of;
 use olr_road::Map;
 use std::alloc::Global;
 
-/// The order in which places are shown.
-#[derive(Clone, Copy, Debug, PartialEq, Eq)]
-pub enum PlaceOrder {
-    /// In the order in which they opened, which is that of their totals.
-    Total,
-    /// By their likely costs.
-    Likely,
-}
-
-/// The places in the order of totals, as they are shown.
-fn found_by_total(
+/// The places in the order of totals, of which no confidence says anything.
+fn asked_by_total(
     alloc: Global,
     map: &Map,
     layers: &Layers,
     searches: Searches,
-    limits: &PlaceLimits,
+    asked: &AskedPlaces,
 ) -> Result<ShownPlaces, NoMemory>
     requires layers { AreLayersOn map.now layers.now }
     requires searches { AreSearchesOn map.now searches }
-    ensures found { IfOk result (AreFoundByTotal limits.now map.now layers.now) }
-    ensures openers { IfOk result (λ shown. All (IsShownAt map.now layers.now) shown.places.items) }
+    ensures { IfOk result (AreAskedByTotal asked.now map.now layers.now) }
 {
-    let places = places_of(alloc, map, layers, searches, limits)?;
-    let shown = shown_by_total(alloc, places)?;
+    let places = places_of(alloc, map, layers, searches, &asked.limits)?;
+    let found = shown_by_total(alloc, places)?;
+    let more = More {
+        detailed: asked.detailed,
+        chances: &None,
+    };
+    let shown = extended(alloc, map, layers, more, found)?;
     Ok(shown)
 }
 
-/// The places in the likely order, as they are shown.
-fn found_by_cost(
+/// The places in the likely order.
+fn asked_by_cost(
     alloc: Global,
     map: &Map,
     layers: &Layers,
     searches: Searches,
-    limits: &PlaceLimits,
+    asked: &AskedPlaces,
 ) -> Result<ShownPlaces, NoMemory>
     requires layers { AreLayersOn map.now layers.now }
     requires searches { AreSearchesOn map.now searches }
-    ensures found { IfOk result (AreFoundByCost limits.now map.now layers.now) }
-    ensures openers { IfOk result (λ shown. All (IsShownAt map.now layers.now) shown.places.items) }
+    ensures { IfOk result (AreAskedByCost asked.now map.now layers.now) }
 {
-    let likely = likely_places(alloc, map, layers, searches, limits)?;
-    let shown = shown_by_cost(alloc, likely)?;
+    let mut likely = likely_places(alloc, map, layers, searches, asked)?;
+    let chances = likely.chances.take();
+    let found = shown_by_cost(alloc, likely)?;
+    let more = More {
+        detailed: asked.detailed,
+        chances: &chances,
+    };
+    let shown = extended(alloc, map, layers, more, found)?;
     Ok(shown)
-}
-
-/// The places in this order, as they are shown.
-fn found_in(
-    alloc: Global,
-    map: &Map,
-    layers: &Layers,
-    searches: Searches,
-    limits: &PlaceLimits,
-    order: PlaceOrder,
-) -> Result<ShownPlaces, NoMemory>
-    requires layers { AreLayersOn map.now layers.now }
-    requires searches { AreSearchesOn map.now searches }
-    ensures found { IfOk result (AreFoundIn limits.now map.now layers.now order) }
-    ensures openers { IfOk result (λ shown. All (IsShownAt map.now layers.now) shown.places.items) }
-{
-    match order {
-        PlaceOrder::Total => found_by_total(alloc, map, layers, searches, limits),
-        PlaceOrder::Likely => found_by_cost(alloc, map, layers, searches, limits),
-    }
 }
 
 /// The places of a reference on a map, by its layers there and the searches that they were built
-/// with ([`Layers::build_with_searches`]): in this order, and where `detailed`, with what speaks for
-/// each. In the order of totals they are those of [`olr_places::places_of`], in the likely order
-/// those of [`likely_places`].
+/// with ([`Layers::build_with_searches`]), in the order that is asked for. In the order of totals they
+/// are those of [`olr_places::places_of`], in the likely order those of [`likely_places`]. Where that is
+/// asked for they show what speaks for each; and in the likely order, where a confidence is given, how
+/// probable each is, and that none is right.
 ///
 /// # Errors
 ///
@@ -92,18 +75,14 @@ pub fn places_asked(
     map: &Map,
     layers: &Layers,
     searches: Searches,
-    limits: &PlaceLimits,
-    order: PlaceOrder,
-    detailed: bool,
+    asked: &AskedPlaces,
 ) -> Result<ShownPlaces, NoMemory>
     requires layers { AreLayersOn map.now layers.now }
     requires searches { AreSearchesOn map.now searches }
-    ensures { IfOk result (AreAsked limits.now map.now layers.now order detailed) }
+    ensures { IfOk result (AreAsked asked.now map.now layers.now) }
 {
-    let found = found_in(alloc, map, layers, searches, limits, order)?;
-    if !detailed {
-        return Ok(found);
+    match asked.order {
+        PlaceOrder::Total => asked_by_total(alloc, map, layers, searches, asked),
+        PlaceOrder::Likely => asked_by_cost(alloc, map, layers, searches, asked),
     }
-    let shown = in_detail(alloc, map, layers, found)?;
-    Ok(shown)
 }

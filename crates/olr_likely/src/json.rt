@@ -2,11 +2,13 @@
 
 ghost use Rattle.std.specs.Prelude.{◌≡◌, IfOk, None, option_map, string_bytes};
 ghost use Rattle.olr_report.specs.ShownMap.{map_shown};
-ghost use Rattle.olr_text.specs.JsonValues.{IsJsonLine, whole};
-ghost use Rattle.olr_likely.specs.Json.{cost_value, opener_object, place_object, rank_value, shown_object};
+ghost use Rattle.olr_text.specs.JsonValues.{IsJsonLine, array_of, or_null, whole, whole_or_null};
+ghost use Rattle.olr_confidence.specs.Json.{name_value, range_object, reason_object};
+ghost use Rattle.olr_likely.specs.Json.{cost_value, differs_value, map_differs_value, none_value, opener_object, place_object, probability_value, rank_value, reasons_value, shown_object};
 
 use crate::showing::{ShownPlace, ShownPlaces};
 use olr_base::NoMemory;
+use olr_confidence::{AskedName, MapRange, Reason};
 use olr_detail::{MatchingDetail, ShownInDetail};
 use olr_places::Opener;
 use olr_report::{RoutePart, ShownMap, ShownMatching, next_cursor, word_drawn};
@@ -68,6 +70,29 @@ fn rank_of(place: &ShownPlace) -> Option<usize>
     Some(likely.rank)
 }
 
+/// How probable a place is, where a confidence is given.
+fn probability_of(place: &ShownPlace) -> Option<Option<u64>>
+    ensures { option_map whole_or_null result ≡ probability_value place.now }
+{
+    match &place.told {
+        Some(Some(said)) => Some(Some(said.probability)),
+        Some(None) => Some(None),
+        None => None,
+    }
+}
+
+/// Why it is no more probable, where a confidence is given.
+fn reasons_of(place: &ShownPlace) -> Option<Option<&[Reason]>>
+    ensures { option_map (or_null (λ reasons. array_of reason_object reasons.now)) result
+        ≡ reasons_value place.now }
+{
+    match &place.told {
+        Some(Some(said)) => Some(Some(said.reasons.as_slice())),
+        Some(None) => Some(None),
+        None => None,
+    }
+}
+
 /// A place, and the part of the route of its opener that is drawn, if one is.
 #[derive(Clone, Copy)]
 pub(crate) struct DrawnPlace<'a> {
@@ -88,14 +113,18 @@ impl ToJson<ShownMap<'_>> for DrawnPlace<'_> {
         };
         let cost = cost_of(place);
         let part = word_drawn(self.part);
+        let probability = probability_of(place);
         let rank = rank_of(place);
+        let reasons = reasons_of(place);
         send_object!(on, out, {
             "cost"?: cost,
             "gap": opener.gap,
             "matching": matching,
             "members": opener.members,
             "part"?: part,
+            "probability"?: probability,
             "rank"?: rank,
+            "reasons"?: reasons,
         })
     }
 }
@@ -113,19 +142,49 @@ impl ToJson<ShownMap<'_>> for ShownPlace {
     }
 }
 
+/// The names of the numbers that differ from those of a confidence, where one is given.
+pub(crate) fn differs_of(shown: &ShownPlaces) -> Option<&[AskedName]>
+    ensures { option_map (λ names. array_of name_value names.now) result ≡ differs_value shown.now }
+{
+    let told = shown.told.as_ref()?;
+    Some(told.differs.as_slice())
+}
+
+/// How different the sender's map is, where a confidence is given.
+pub(crate) fn map_differs_of(shown: &ShownPlaces) -> Option<Option<MapRange>>
+    ensures { option_map (or_null range_object) result ≡ map_differs_value shown.now }
+{
+    let told = shown.told.as_ref()?;
+    Some(told.map_differs)
+}
+
+/// How probable it is that none of the places is right, where a confidence is given.
+pub(crate) fn none_of(shown: &ShownPlaces) -> Option<Option<u64>>
+    ensures { option_map whole_or_null result ≡ none_value shown.now }
+{
+    let told = shown.told.as_ref()?;
+    Some(told.none)
+}
+
 /// The object of the places that are shown.
 impl ToJson<ShownMap<'_>> for ShownPlaces {
     ghost value = { λ on. shown_object (map_shown on) };
 
     fn send<S: Serializer>(&self, on: &ShownMap<'_>, out: &mut S) -> Result<(), S::Error> {
         let cut = self.cut;
+        let differs = differs_of(self);
+        let map_differs = map_differs_of(self);
         let next = next_cursor(self.next.as_ref(), None);
+        let none = none_of(self);
         let verdict = self.verdict.word();
         send_object!(on, out, {
             "cut"?: cut,
+            "differs"?: differs,
             "looked": self.looked,
+            "map_differs"?: map_differs,
             "margin": self.margin,
             "next": next,
+            "none_of_these"?: none,
             "places": self.places,
             "verdict": verdict,
         })
@@ -136,8 +195,9 @@ impl ToJson<ShownMap<'_>> for ShownPlaces {
 /// order of their names. It has how many matchings were `looked` at, the `margin` or null, as
 /// `next` the cursor after which looking would go on, or null, the `places`, and the `verdict`. A
 /// place has its `gap`, its opener as `matching`, and its `members`. In the likely order a place has
-/// its `cost` and its `rank` too, and the whole has `cut`, whether a place may be missing. A
-/// matching is as [`olr_report::json_page_shown`] has it, in detail as
+/// its `cost` and its `rank` too, and the whole has `cut`, whether a place may be missing. Where a
+/// confidence is given, a place has its `probability` and `reasons`, and the whole has `differs`,
+/// `map_differs` and `none_of_these`. A matching is as [`olr_report::json_page_shown`] has it, in detail as
 /// [`olr_detail::json_page_in_detail`] has it, with its shape and its spots where these are asked
 /// for.
 ///

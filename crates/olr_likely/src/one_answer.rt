@@ -2,6 +2,7 @@
 
 ghost use Rattle.olr_likely.specs.OneAnswer.{LawsBelow, OneGeoJson, OneJson, OneText};
 
+use olr_confidence::one_probability;
 use olr_detail::one_detail;
 use olr_keys::one_list;
 
@@ -11,11 +12,11 @@ fn laws_below()
 {
     one_list();
     one_detail();
+    one_probability();
 }
 
 /// Places as they are asked for ([`crate::places_asked`]) have one text, one JSON and one GeoJSON:
-/// those of a reference on a map, by its layers there, by the limits and the order, and whether in
-/// detail. It is a premise that looking at the matchings gives one value, as `one_looking` of
+/// those of a reference on a map, by its layers there and by what is asked. It is a premise that looking at the matchings gives one value, as `one_looking` of
 /// `olr_places_laws` says.
 pub fn one_shown()
     ensures text { OneText }

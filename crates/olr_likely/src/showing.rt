@@ -1,23 +1,18 @@
-//! Places as they are shown: in the order of totals or in the likely order, with what speaks for
-//! them or without.
+//! Places as they are shown: in the order of totals or in the likely order.
 
 ghost use Rattle.std.specs.Prelude.{◌≡◌, All, IfOk, map};
 ghost use Rattle.olr_road.specs.RoadMap.{RoadMap};
-ghost use Rattle.olr_matching.specs.Layers.{AreLayersOn, LayersValue};
-ghost use Rattle.olr_detail.specs.MatchingDetail.{CanBeDetailed};
-ghost use Rattle.olr_report.specs.Entries.{HasPieces};
+ghost use Rattle.olr_matching.specs.Layers.{LayersValue};
 ghost use Rattle.olr_places.specs.Places.{IsOpenerAt};
-ghost use Rattle.olr_likely.specs.Showing.{AreInDetail, AreShownByCost, AreShownByTotal, IsShownAt, IsInDetail, IsPlaceInDetail, shown_by_cost, shown_by_total};
+ghost use Rattle.olr_likely.specs.Showing.{AreShownByCost, AreShownByTotal, IsShownAt, shown_by_cost, shown_by_total};
 
 use crate::answer::LikelyPlaces;
 use crate::ranked::RankedPlace;
+use crate::told::{ToldPlace, ToldPlaces};
 use olr_base::NoMemory;
-use olr_candidates::ReferenceOnMap;
-use olr_detail::{MatchingDetail, detail_of_matching, matchings_can_be_detailed};
+use olr_detail::MatchingDetail;
 use olr_keys::Key;
-use olr_matching::Layers;
 use olr_places::{Opener, Places, Verdict};
-use olr_road::Map;
 use std::alloc::Global;
 
 /// The rank and the likely cost of a place.
@@ -38,6 +33,8 @@ pub struct ShownPlace {
     pub likely: Option<RankAndCost>,
     /// What speaks for the matching that opened it, where that is asked for.
     pub detail: Option<MatchingDetail>,
+    /// What a confidence says of it, where one is given: nothing where it isn't for such places.
+    pub told: Option<Option<ToldPlace>>,
 }
 
 /// The places of a reference as they are shown.
@@ -55,6 +52,8 @@ pub struct ShownPlaces {
     pub cut: Option<bool>,
     /// Whether the match is unique.
     pub verdict: Verdict,
+    /// What a confidence says of all places, where one is given.
+    pub told: Option<ToldPlaces>,
 }
 
 /// The places of these openers, as the order of totals shows them.
@@ -67,6 +66,7 @@ fn places_by_total(alloc: Global, openers: Vec<Opener>) -> Result<Vec<ShownPlace
             opener,
             likely: None,
             detail: None,
+            told: None,
         })?;
     }
     Ok(shown)
@@ -85,6 +85,7 @@ fn places_by_cost(alloc: Global, places: Vec<RankedPlace>) -> Result<Vec<ShownPl
                 cost: place.likely.cost,
             }),
             detail: None,
+            told: None,
         })?;
     }
     Ok(shown)
@@ -95,7 +96,7 @@ fn places_by_cost(alloc: Global, places: Vec<RankedPlace>) -> Result<Vec<ShownPl
 /// # Errors
 ///
 /// [`NoMemory`] where the allocator refused memory.
-pub fn shown_by_total(alloc: Global, places: Places) -> Result<ShownPlaces, NoMemory>
+pub(crate) fn shown_by_total(alloc: Global, places: Places) -> Result<ShownPlaces, NoMemory>
     ensures shown { IfOk result (AreShownByTotal places) }
     ensures openers { IfOk result (λ shown. (road : RoadMap) (layers : LayersValue)
         → All (IsOpenerAt road layers) places.openers.items
@@ -116,6 +117,7 @@ pub fn shown_by_total(alloc: Global, places: Places) -> Result<ShownPlaces, NoMe
         next: ending.key_behind(last),
         cut: None,
         verdict,
+        told: None,
     })
 }
 
@@ -124,7 +126,7 @@ pub fn shown_by_total(alloc: Global, places: Places) -> Result<ShownPlaces, NoMe
 /// # Errors
 ///
 /// [`NoMemory`] where the allocator refused memory.
-pub fn shown_by_cost(alloc: Global, likely: LikelyPlaces) -> Result<ShownPlaces, NoMemory>
+pub(crate) fn shown_by_cost(alloc: Global, likely: LikelyPlaces) -> Result<ShownPlaces, NoMemory>
     ensures shown { IfOk result (AreShownByCost likely) }
     ensures openers { IfOk result (λ shown. (road : RoadMap) (layers : LayersValue)
         → All (λ place. IsOpenerAt road layers place.opener) likely.places.items
@@ -137,6 +139,7 @@ pub fn shown_by_cost(alloc: Global, likely: LikelyPlaces) -> Result<ShownPlaces,
         margin,
         cut,
         verdict,
+        chances: _,
     } = likely;
     Ok(ShownPlaces {
         places: places_by_cost(alloc, places)?,
@@ -145,69 +148,6 @@ pub fn shown_by_cost(alloc: Global, likely: LikelyPlaces) -> Result<ShownPlaces,
         next,
         cut: Some(cut),
         verdict,
-    })
-}
-
-/// A place with what speaks for the matching that opened it.
-fn place_in_detail(
-    alloc: Global,
-    on: &ReferenceOnMap<'_>,
-    mut place: ShownPlace,
-) -> Result<ShownPlace, NoMemory>
-    requires matched { CanBeDetailed on.now.tolerances on.now.reference.now on.now.map.now
-        place.opener.matched }
-    requires route { HasPieces on.now.map.now place.opener.route.items }
-    ensures { IfOk result (IsPlaceInDetail on.now.tolerances on.now.reference.now on.now.map.now
-        place) }
-{
-    let opener = &place.opener;
-    let detail = detail_of_matching(alloc, on, &opener.matched, &opener.route)?;
-    place.detail = Some(detail);
-    Ok(place)
-}
-
-/// Places with what speaks for the matching that opened each.
-fn places_in_detail(
-    alloc: Global,
-    map: &Map,
-    layers: &Layers,
-    places: Vec<ShownPlace>,
-) -> Result<Vec<ShownPlace>, NoMemory>
-    requires layers { AreLayersOn map.now layers.now }
-    requires places { All (IsShownAt map.now layers.now) places.items }
-    ensures { IfOk result (λ detailed.
-        AreInDetail map.now layers.now places.items detailed.items) }
-{
-    matchings_can_be_detailed();
-    let on = ReferenceOnMap {
-        map,
-        reference: layers.reference(),
-        tolerances: *layers.tolerances(),
-    };
-    let mut detailed = Vec::with_capacity(alloc, places.len())?;
-    for place in places {
-        detailed.push(place_in_detail(alloc, &on, place)?)?;
-    }
-    Ok(detailed)
-}
-
-/// The same places with what speaks for the matching that opened each.
-///
-/// # Errors
-///
-/// [`NoMemory`] where the allocator refused memory.
-pub fn in_detail(
-    alloc: Global,
-    map: &Map,
-    layers: &Layers,
-    shown: ShownPlaces,
-) -> Result<ShownPlaces, NoMemory>
-    requires layers { AreLayersOn map.now layers.now }
-    requires places { All (IsShownAt map.now layers.now) shown.places.items }
-    ensures { IfOk result (IsInDetail map.now layers.now shown) }
-{
-    Ok(ShownPlaces {
-        places: places_in_detail(alloc, map, layers, shown.places)?,
-        ..shown
+        told: None,
     })
 }

@@ -1,0 +1,45 @@
+//! What is told of places by a confidence.
+
+use olr_confidence::{AskedName, MapRange, Reason};
+use std::marker::Model;
+
+/// What is told of a place.
+#[derive(Debug, Drop)]
+pub struct ToldPlace {
+    /// How probable it is that it is the right one, in millionths.
+    pub probability: u64,
+    /// Why it is no more probable.
+    pub reasons: Vec<Reason>,
+}
+
+impl Model for ToldPlace {
+    ghost use Rattle.olr_likely.specs.Values.{ToldPlaceValue};
+
+    ghost Value = { ToldPlaceValue };
+
+    ghost view = { λ told. record { probability = told.probability; reasons = told.reasons.items } };
+}
+
+/// What is told of all places together.
+#[derive(Debug, Drop)]
+pub struct ToldPlaces {
+    /// How probable it is that none of those that were looked at is right, in millionths, if that is
+    /// known.
+    pub none: Option<u64>,
+    /// How different the sender's map is, if that is known.
+    pub map_differs: Option<MapRange>,
+    /// The names of the numbers by which places were asked for that aren't those of the confidence.
+    pub differs: Vec<AskedName>,
+}
+
+impl Model for ToldPlaces {
+    ghost use Rattle.olr_likely.specs.Values.{ToldPlacesValue};
+
+    ghost Value = { ToldPlacesValue };
+
+    ghost view = { λ told. record {
+      none = told.none;
+      map_differs = told.map_differs;
+      differs = told.differs.items;
+    } };
+}
