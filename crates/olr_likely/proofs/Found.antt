@@ -1,7 +1,7 @@
 -- What is answered of the places that were found by the widest limits.
 use Rattle.std.proofs.lemmas.List.Elements.{All-filter, All-take}
 use Rattle.std.proofs.lemmas.List.Sorted.{All-permutation}
-use Rattle.std.proofs.Common.{All, ◌≡◌, List, map, refl, ap, ◌∙◌}
+use Rattle.std.proofs.Common.{All, ◌≡◌, List, Option, map, refl, ap, ◌∙◌}
 use Rattle.olr_keys.specs.Answers.{AreAnswers}
 use Rattle.olr_keys.specs.Key.{KeyValue}
 use Rattle.olr_keys.specs.Laws.{KeysAreInRange}
@@ -15,10 +15,13 @@ use Rattle.olr_places.specs.declared.limits.PlaceLimits.{PlaceLimits}
 use Rattle.olr_places.specs.declared.opener.Opener.{Opener}
 use Rattle.olr_places.specs.declared.places.Places.{Places}
 use Rattle.olr_likely.specs.Answer.{IsAnswerOf}
+use Rattle.olr_likely.specs.Chances.{AreChancesIf}
 use Rattle.olr_likely.specs.Finding.{AreLikelyPlaces, AreWidest}
 use Rattle.olr_likely.specs.Order.{AreShown, is_shown, least_cost}
 use Rattle.olr_likely.specs.Ranked.{AreLookedAt, AreRanked}
 use Rattle.olr_likely.specs.declared.answer.LikelyPlaces.{LikelyPlaces}
+use Rattle.olr_likely.specs.declared.asked.AskedPlaces.{AskedPlaces}
+use Rattle.olr_likely.specs.declared.chances.Chances.{Chances}
 use Rattle.olr_likely.specs.declared.ranked.RankedPlace.{RankedPlace}
 use Rattle.olr_likely.proofs.Turns.{all_before}
 use Rattle.olr_likely.proofs.Widest.{all_listed, keys_low}
@@ -36,8 +39,8 @@ all_shown P road places shown limits openers ranked are all =
     (All-filter (is_shown limits.within (least_cost places)) Q are.ordered
     (All-permutation Q places are.ordered are.in_order.same of_all)))
 
-module _ (road : RoadMap) (layers : LayersValue) (limits widest : PlaceLimits)
-    (are_widest : AreWidest limits widest) (in_range : KeysAreInRange)
+module _ (road : RoadMap) (layers : LayersValue) (asked : AskedPlaces) (widest : PlaceLimits)
+    (are_widest : AreWidest asked.limits widest) (in_range : KeysAreInRange)
     (table : IsTable layers.penalties) (answers : List KeyValue) (looked : Looked)
     (are_answers : AreAnswers layers.penalties answers)
     (is_looked : IsLooked widest road layers answers looked) (found : Places)
@@ -55,17 +58,20 @@ module _ (road : RoadMap) (layers : LayersValue) (limits widest : PlaceLimits)
     ranked = record { openers_are = refl; ranks = ranked.ranks; costs = ranked.costs };
   }
 
-  pub are_likely : (likely : LikelyPlaces)
-      → IsAnswerOf limits found.looked found.ending (key_behind found.ending found.last) places
-      likely → AreLikelyPlaces limits road layers likely
-  are_likely likely is = record {
+  pub are_likely : (chances : Option Chances) (likely : LikelyPlaces)
+      → AreChancesIf asked.confidence asked.limits.apart road layers places chances
+      → IsAnswerOf asked.limits found.looked found.ending (key_behind found.ending found.last)
+      chances places likely → AreLikelyPlaces asked road layers likely
+  are_likely chances likely are_chances is = record {
     widest = widest;
     answers = answers;
     looked = looked;
     places = places;
+    chances = chances;
     are_widest = are_widest;
     are_answers = are_answers;
     is_looked = is_looked;
     are_looked_at = looked_at;
+    are_chances = are_chances;
     is_answer = rw (← are.count, ← are.ending, ← are.last) is;
   }

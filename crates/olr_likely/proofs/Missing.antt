@@ -148,16 +148,16 @@ module _ (totals : TotalsAreOfParts) (road : RoadMap) (layers : LayersValue)
           )
 
 pub none_missing : TotalsAreOfParts → NoneIsMissing
-none_missing totals limits road layers likely last key matched turns_back are on none next is_key
+none_missing totals asked road layers likely last key matched turns_back are on none next is_key
     is before =
     let answer = are.is_answer in
     let next_is = sym answer.next_is ∙ next in
     let looked = some_looked are.looked.ending are.looked.matchings last next_is in
     let some = some_place are.widest are.looked.matchings looked.1 looked.0 are.places looked.2
     are.are_looked_at.openers_are in
-    let cut : is_cut limits.within are.places (Some last) ≡ false =
-    ap (is_cut limits.within are.places) (sym next_is) ∙ sym answer.cut_is ∙ none in
-    let past = beyond limits.within are.places some.0 some.1 last some.2 cut in
+    let cut : is_cut asked.limits.within are.places (Some last) ≡ false =
+    ap (is_cut asked.limits.within are.places) (sym next_is) ∙ sym answer.cut_is ∙ none in
+    let past = beyond asked.limits.within are.places some.0 some.1 last some.2 cut in
     let later = no_less last key before in
     let least = least_is totals road layers on are.widest are.answers are.looked are.are_answers
     are.is_looked looked.0 looked.1 looked.2 are.places some.0 some.1 some.2 are.are_looked_at in

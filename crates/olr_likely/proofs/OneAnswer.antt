@@ -1,16 +1,20 @@
 -- Places as they are asked for show one list of values.
-use Rattle.std.proofs.Common.{◌≡◌, ℕ, suc, ◌+◌, Bool, true, false, List, [], ◌∷◌, length, map, All, None, Some, refl, sym, subst, ap, ◌∙◌, arith}
+use Rattle.std.proofs.Common.{◌≡◌, ℕ, suc, ◌+◌, Bool, true, false, List, [], ◌∷◌, length, map, All, Option, None, Some, option_map, if◌then◌else◌, refl, sym, subst, ap, ◌∙◌, arith}
 use Rattle.std.proofs.Props.{props}
 use Rattle.std.proofs.lemmas.Bool.Decides.{same_from_decides}
 use Rattle.std.proofs.lemmas.List.Elements.{All-head, All-tail}
 use Rattle.std.proofs.lemmas.Simd.{map-map}
-use Rattle.std.specs.Prelude.{slice_get}
+use Rattle.std.specs.Prelude.{option_and_then, slice_get}
 use Rattle.olr_keys.specs.Key.{KeyValue}
 use Rattle.olr_road.specs.RoadMap.{IsSoundMap, RoadMap}
 use Rattle.olr_matching.specs.Layers.{LayersValue}
 use Rattle.olr_matching.specs.declared.matched.Matched.{Matched}
+use Rattle.olr_confidence.specs.declared.asked.AskedName.{AskedName}
+use Rattle.olr_confidence.specs.declared.confidence.Confidence.{Confidence}
+use Rattle.olr_confidence.specs.declared.confidence.Weights.{Weights}
+use Rattle.olr_confidence.specs.declared.terms.Terms.{Terms}
 use Rattle.olr_detail.specs.Cost.{IsLikelyCost, cost_of}
-use Rattle.olr_detail.specs.MatchingDetail.{IsMatchingDetail}
+use Rattle.olr_detail.specs.declared.matching_detail.MatchingDetail.{MatchingDetail}
 use Rattle.olr_detail.specs.declared.cost.LikelyCost.{LikelyCost}
 use Rattle.olr_report.specs.Common.{Piece}
 use Rattle.olr_report.specs.Entries.{Entry}
@@ -23,19 +27,26 @@ use Rattle.olr_places.specs.declared.limits.PlaceLimit.TheVariants.{Apart, Look,
 use Rattle.olr_places.specs.declared.limits.PlaceLimits.{PlaceLimits}
 use Rattle.olr_places.specs.declared.opener.Opener.{Opener}
 use Rattle.olr_likely.specs.Answer.{ending_within, is_cut}
-use Rattle.olr_likely.specs.Asking.{AreAsked, AreFoundByCost, AreFoundByTotal, AreFoundIn}
+use Rattle.olr_likely.specs.Asking.{AreAskedByCost, AreAskedByTotal, AreAskedIn}
+use Rattle.olr_likely.specs.Chances.{AreChances, AreChancesIf, AreTermsOfPlaces, IsKnown, are_known}
+use Rattle.olr_likely.specs.Extending.{AreExtended, AreExtendedPlaces, IsExtended, IsSaid, IsSaidIf, IsTold, differs_of, names_in, probability_at, told_of}
 use Rattle.olr_likely.specs.Finding.{AreWidest}
 use Rattle.olr_likely.specs.OneAnswer.{LawsBelow, OneGeoJson, OneJson, OneLooking, OneText}
 use Rattle.olr_likely.specs.Ranked.{AreLookedAt, HasLikelyCost, openers_in}
-use Rattle.olr_likely.specs.Showing.{AreInDetail, IsInDetail, shown_by_cost, shown_by_total}
-use Rattle.olr_likely.specs.declared.asking.PlaceOrder.{PlaceOrder}
-use Rattle.olr_likely.specs.declared.asking.PlaceOrder.TheVariants.{Likely, Total}
+use Rattle.olr_likely.specs.Showing.{shown_by_cost, shown_by_total}
+use Rattle.olr_likely.specs.Values.{ToldPlaceValue}
+use Rattle.olr_likely.specs.declared.told.ToldPlaces.{ToldPlaces}
+use Rattle.olr_likely.specs.declared.asked.AskedPlaces.{AskedPlaces}
+use Rattle.olr_likely.specs.declared.asked.PlaceOrder.{PlaceOrder}
+use Rattle.olr_likely.specs.declared.asked.PlaceOrder.TheVariants.{Likely, Total}
+use Rattle.olr_likely.specs.declared.chances.Chances.{Chances}
+use Rattle.olr_likely.specs.declared.chances.KnownChances.{KnownChances}
 use Rattle.olr_likely.specs.declared.ranked.RankedPlace.{RankedPlace}
 use Rattle.olr_likely.specs.declared.showing.ShownPlace.{ShownPlace}
 use Rattle.olr_likely.specs.declared.showing.ShownPlaces.{ShownPlaces}
-use Rattle.olr_likely.proofs.OneOrder.{one_cut, one_ending, one_listed, one_margin, shown_once}
+use Rattle.olr_likely.proofs.OneOrder.{one_cut, one_ending, one_least, one_listed, one_margin, shown_once}
 use Rattle.olr_likely.proofs.ByTotal.{next_is, verdict_is}
-use Rattle.olr_likely.proofs.Values.{AreAlike, OpenerValue, RankedValue, ShownValue, opener_value, ranked_value, same_geojson, same_json, same_made, same_parts, same_text, shown_value}
+use Rattle.olr_likely.proofs.Values.{AreAlike, ChancesValue, KnownValue, OpenerValue, RankedValue, ShownValue, chances_value, known_value, opener_value, ranked_value, same_geojson, same_json, same_made, same_parts, same_text, shown_value}
 
 -- ---- openers
 
@@ -149,7 +160,7 @@ widest_once limits one other is its =
 -- ---- as they are shown
 
 abbrev by_opener : OpenerValue → ShownValue
-by_opener value = record { opener = value; likely = None; detail = None }
+by_opener value = record { opener = value; likely = None; detail = None; told = None }
 
 values_by_total : (ones others : List Opener) (shown reshown : List ShownPlace)
     → map opener_value ones ≡ map opener_value others → shown ≡ map shown_by_total ones
@@ -165,6 +176,7 @@ by_rank value = record {
   opener = value.opener;
   likely = Some (record { rank = value.rank; cost = value.likely.cost });
   detail = None;
+  told = None;
 }
 
 values_by_cost : (ones others : List RankedPlace) (shown reshown : List ShownPlace)
@@ -176,9 +188,241 @@ values_by_cost ones others shown reshown same are their =
     others same
     ∙ sym (map-map shown_value shown_by_cost others) ∙ sym (ap (map shown_value) their)
 
+-- ---- how probable places are
+
+module _ (below : LawsBelow) (road : RoadMap) (layers : LayersValue) where
+  -- what counts for and against places of the same values is the same
+  terms_once : (ones others : List RankedPlace) (terms again : List Terms)
+      → map ranked_value ones ≡ map ranked_value others
+      → AreTermsOfPlaces road layers ones terms → AreTermsOfPlaces road layers others again
+      → terms ≡ again
+  terms_once [] [] [] [] same are their = refl
+  terms_once [] [] [] (a ∷ again) same are their = absurd their
+  terms_once [] [] (t ∷ terms) again same are their = absurd are
+  terms_once [] (other ∷ others) terms again same are their = absurd cc
+  terms_once (one ∷ ones) [] terms again same are their = absurd cc
+  terms_once (one ∷ ones) (other ∷ others) [] again same are their = absurd are
+  terms_once (one ∷ ones) (other ∷ others) (t ∷ terms) [] same are their = absurd their
+  terms_once (one ∷ ones) (other ∷ others) (t ∷ terms) (a ∷ again) same are their =
+      let parts = same_parts (ranked_value one) (ranked_value other) (map ranked_value ones)
+      (map ranked_value others) same in
+      let matched = ap (λ (value : RankedValue). value.opener.entry.matched) parts.0 in
+      let route = ap (λ (value : RankedValue). value.opener.entry.route) parts.0 in
+      let detail = below.detail layers.tolerances layers.reference road other.opener.matched
+      other.opener.route.items are.0.detail their.0.detail (rw (← matched, ← route) are.0.is_detail)
+      their.0.is_detail in
+      let first = below.terms their.0.detail (length other.opener.route.items) t a
+      (rw (← detail, ← route) are.0.are_terms) their.0.are_terms in
+      let rest = terms_once ones others terms again parts.1 are.1 their.1 in
+      λ k. first k ∷ rest k
+
+  module _ (confidence : Confidence) (ones others : List RankedPlace)
+      (same : map ranked_value ones ≡ map ranked_value others) where
+    known_once : (is_known : Bool) (one other : Option KnownChances)
+        → IsKnown confidence road layers ones is_known one
+        → IsKnown confidence road layers others is_known other
+        → option_map known_value one ≡ option_map known_value other
+    known_once false one other are their = ap (option_map known_value) (are ∙ sym their)
+    known_once true None other are their = absurd are
+    known_once true (Some one) None are their = absurd their
+    known_once true (Some one) (Some other) are their =
+        let terms = terms_once ones others are.terms their.terms same are.are_terms
+        their.are_terms in
+        let as_probable = below.probability confidence.weights their.terms one.probabilities
+        other.probabilities (rw (← terms) are.are_probable) their.are_probable in
+        let least = are.least_is ∙ one_least ones others same ∙ sym their.least_is in
+        λ k. Some (record {
+          places = as_probable.places k;
+          none = as_probable.none k;
+          least = least k;
+        })
+
+    chances_once : (apart : ℕ) (one other : Chances)
+        → AreChances confidence apart road layers ones one
+        → AreChances confidence apart road layers others other
+        → chances_value one ≡ chances_value other
+    chances_once apart one other are their =
+        let is = are.confidence_is ∙ sym their.confidence_is in
+        let differs = are.differs_are ∙ sym their.differs_are in
+        let known = known_once (are_known other.differs.items layers.reference) one.known other.known
+        (rw (← differs) are.known_is) their.known_is in
+        λ k. record { confidence = is k; differs = differs k; known = known k }
+
+  chances_if_once : (confidence : Option Confidence) (apart : ℕ) (ones others : List RankedPlace)
+      (one other : Option Chances) → map ranked_value ones ≡ map ranked_value others
+      → AreChancesIf confidence apart road layers ones one
+      → AreChancesIf confidence apart road layers others other
+      → option_map chances_value one ≡ option_map chances_value other
+  chances_if_once None apart ones others one other same are their =
+      ap (option_map chances_value) (are ∙ sym their)
+  chances_if_once (Some confidence) apart ones others None other same are their = absurd are
+  chances_if_once (Some confidence) apart ones others (Some one) None same are their = absurd their
+  chances_if_once (Some confidence) apart ones others (Some one) (Some other) same are their =
+      ap Some (chances_once confidence ones others same apart one other are their)
+
+-- ---- places with more
+
+abbrev told_by : ChancesValue → ToldPlaces
+told_by value = record {
+  none = option_map (λ (known : KnownValue). known.none) value.known;
+  map_differs = option_and_then (λ (known : KnownValue). value.confidence.map_differs) value.known;
+}
+
+some_same : {A : Type 0} {x y : A} → Some x ≡ Some y → x ≡ y
+some_same same = cc
+
+all_told : (known : Option KnownChances) (confidence : Confidence) (differs : List AskedName)
+    → told_by (record {
+      confidence = confidence;
+      differs = differs;
+      known = option_map known_value known;
+    }) ≡ record {
+      none = option_map (λ (known : KnownChances). known.probabilities.none) known;
+      map_differs = option_and_then (λ (known : KnownChances). confidence.map_differs) known;
+    }
+all_told None confidence differs = refl
+all_told (Some known) confidence differs = refl
+
+-- what is told of all places is the same
+told_once : (one other : Option Chances)
+    → option_map chances_value one ≡ option_map chances_value other
+    → option_map told_of one ≡ option_map told_of other
+told_once None None same = refl
+told_once None (Some other) same = absurd cc
+told_once (Some one) None same = absurd cc
+told_once (Some one) (Some other) same =
+    ap Some (sym (all_told one.known one.confidence one.differs.items)
+    ∙ ap told_by (some_same same) ∙ all_told other.known other.confidence other.differs.items)
+
+-- and so are the numbers that differ
+differs_once : (one other : Option Chances)
+    → option_map chances_value one ≡ option_map chances_value other
+    → option_map differs_of one ≡ option_map differs_of other
+differs_once None None same = refl
+differs_once None (Some other) same = absurd cc
+differs_once (Some one) None same = absurd cc
+differs_once (Some one) (Some other) same =
+    ap Some (ap (λ (value : ChancesValue). value.differs) (some_same same))
+
+module _ (below : LawsBelow) where
+  module _ (place again : ShownPlace) (same : shown_value place ≡ shown_value again)
+      (detail redetail : MatchingDetail) (detail_is : detail ≡ redetail) where
+    said_once : (weights reweights : Weights) (known reknown : KnownChances)
+        (said resaid : ToldPlaceValue) → weights ≡ reweights
+        → known_value known ≡ known_value reknown → IsSaid weights known place detail said
+        → IsSaid reweights reknown again redetail resaid → said ≡ resaid
+    said_once weights reweights known reknown said resaid weighs knows is its =
+        let route = ap (λ (value : ShownValue). value.opener.entry.route) same in
+        let probability = is.probability_is
+        ∙ (λ k. probability_at (knows k).places ((same k).likely)) ∙ sym its.probability_is in
+        let least = ap (λ (value : KnownValue). value.least) knows in
+        let reasons = below.reasons reweights redetail reknown.least
+        (length again.opener.route.items) said.reasons resaid.reasons
+        (rw (← weighs, ← detail_is, ← least, ← route) is.are_reasons) its.are_reasons in
+        λ k. record { probability = probability k; reasons = reasons k }
+
+    said_if_once : (weights reweights : Weights) (known reknown : Option KnownChances)
+        (said resaid : Option ToldPlaceValue) → weights ≡ reweights
+        → option_map known_value known ≡ option_map known_value reknown
+        → IsSaidIf weights known place detail said → IsSaidIf reweights reknown again redetail resaid
+        → said ≡ resaid
+    said_if_once weights reweights None None said resaid weighs knows is its = is ∙ sym its
+    said_if_once weights reweights None (Some reknown) said resaid weighs knows is its = absurd cc
+    said_if_once weights reweights (Some known) None said resaid weighs knows is its = absurd cc
+    said_if_once weights reweights (Some known) (Some reknown) None resaid weighs knows is its =
+        absurd is
+    said_if_once weights reweights (Some known) (Some reknown) (Some said) None weighs knows is its =
+        absurd its
+    said_if_once weights reweights (Some known) (Some reknown) (Some said) (Some resaid) weighs knows
+        is its = ap Some (said_once weights reweights known reknown said resaid weighs
+        (some_same knows) is its)
+
+    told_place_once : (chances rechances : Option Chances) (told retold : Option (Option ToldPlaceValue))
+        → option_map chances_value chances ≡ option_map chances_value rechances
+        → IsTold chances place detail told → IsTold rechances again redetail retold → told ≡ retold
+    told_place_once None None told retold alike is its = is ∙ sym its
+    told_place_once None (Some rechances) told retold alike is its = absurd cc
+    told_place_once (Some chances) None told retold alike is its = absurd cc
+    told_place_once (Some chances) (Some rechances) None retold alike is its = absurd is
+    told_place_once (Some chances) (Some rechances) (Some told) None alike is its = absurd its
+    told_place_once (Some chances) (Some rechances) (Some told) (Some retold) alike is its =
+        let values = some_same alike in
+        ap Some (said_if_once chances.confidence.weights rechances.confidence.weights chances.known
+        rechances.known told retold (ap (λ (value : ChancesValue). value.confidence.weights) values)
+        (ap (λ (value : ChancesValue). value.known) values) is its)
+
+  module _ (road : RoadMap) (layers : LayersValue) (detailed : Bool)
+      (chances rechances : Option Chances)
+      (alike : option_map chances_value chances ≡ option_map chances_value rechances) where
+    -- places of the same values, with more, have the same values
+    extended_once : (ones others extended reextended : List ShownPlace)
+        → map shown_value ones ≡ map shown_value others
+        → AreExtendedPlaces detailed chances road layers ones extended
+        → AreExtendedPlaces detailed rechances road layers others reextended
+        → map shown_value extended ≡ map shown_value reextended
+    extended_once [] [] [] [] same are their = refl
+    extended_once [] [] [] (r ∷ reextended) same are their = absurd their
+    extended_once [] [] (e ∷ extended) reextended same are their = absurd are
+    extended_once [] (other ∷ others) extended reextended same are their = absurd cc
+    extended_once (one ∷ ones) [] extended reextended same are their = absurd cc
+    extended_once (one ∷ ones) (other ∷ others) [] reextended same are their = absurd are
+    extended_once (one ∷ ones) (other ∷ others) (e ∷ extended) [] same are their = absurd their
+    extended_once (one ∷ ones) (other ∷ others) (e ∷ extended) (r ∷ reextended) same are their =
+        let parts = same_parts (shown_value one) (shown_value other) (map shown_value ones)
+        (map shown_value others) same in
+        let matched = ap (λ (value : ShownValue). value.opener.entry.matched) parts.0 in
+        let route = ap (λ (value : ShownValue). value.opener.entry.route) parts.0 in
+        let detail = below.detail layers.tolerances layers.reference road other.opener.matched
+        other.opener.route.items are.0.detail their.0.detail
+        (rw (← matched, ← route) are.0.is_detail) their.0.is_detail in
+        let told = told_place_once one other parts.0 are.0.detail their.0.detail detail chances
+        rechances are.0.told their.0.told alike are.0.is_told their.0.is_told in
+        let first = ap shown_value are.0.extended_is
+        ∙ (λ k. record {
+          opener = (parts.0 k).opener;
+          likely = (parts.0 k).likely;
+          detail = if detailed then Some (detail k) else None;
+          told = told k;
+        })
+        ∙ sym (ap shown_value their.0.extended_is) in
+        let rest = extended_once ones others extended reextended parts.1 are.1 their.1 in
+        λ k. first k ∷ rest k
+
+    all_extended_once : (found refound one other : ShownPlaces) → AreAlike found refound
+        → AreExtended detailed chances road layers found one
+        → AreExtended detailed rechances road layers refound other → AreAlike one other
+    all_extended_once found refound one other same is its = record {
+      places = extended_once _ _ _ _ same.places is.places its.places;
+      looked = is.looked_is ∙ same.looked ∙ sym its.looked_is;
+      margin = is.margin_is ∙ same.margin ∙ sym its.margin_is;
+      next = is.next_is ∙ same.next ∙ sym its.next_is;
+      cut = is.cut_is ∙ same.cut ∙ sym its.cut_is;
+      verdict = is.verdict_is ∙ same.verdict ∙ sym its.verdict_is;
+      told = is.told_is ∙ told_once chances rechances alike ∙ sym its.told_is;
+      differs = is.differs_are ∙ differs_once chances rechances alike ∙ sym its.differs_are;
+    }
+
+  more_once : (detailed : Bool) (chances rechances : Option Chances) (road : RoadMap)
+      (layers : LayersValue) (found refound one other : ShownPlaces)
+      → option_map chances_value chances ≡ option_map chances_value rechances
+      → AreAlike found refound → IsExtended detailed chances road layers found one
+      → IsExtended detailed rechances road layers refound other → AreAlike one other
+  more_once false None None road layers found refound one other alike same is its =
+      subst (λ (shown : ShownPlaces). AreAlike shown other) (sym is)
+      (subst (λ (shown : ShownPlaces). AreAlike found shown) (sym its) same)
+  more_once false None (Some rechances) road layers found refound one other alike same is its =
+      absurd cc
+  more_once false (Some chances) None road layers found refound one other alike same is its =
+      absurd cc
+  more_once false (Some chances) (Some rechances) road layers found refound one other alike same is
+      its = all_extended_once road layers false (Some chances) (Some rechances) alike found refound one
+      other same is its
+  more_once true chances rechances road layers found refound one other alike same is its =
+      all_extended_once road layers true chances rechances alike found refound one other same is its
+
 -- ---- all that is asked
 
-module _ (below : LawsBelow) (looking : OneLooking) (limits : PlaceLimits) (road : RoadMap)
+module _ (below : LawsBelow) (looking : OneLooking) (asked : AskedPlaces) (road : RoadMap)
     (layers : LayersValue) (sound : IsSoundMap road) where
   -- what is looked at by the same limits is one thing
   looked_once : (by : PlaceLimits) (answers keys : List KeyValue) (looked relooked : Looked)
@@ -188,19 +432,19 @@ module _ (below : LawsBelow) (looking : OneLooking) (limits : PlaceLimits) (road
       looking by road layers answers looked relooked sound is
       (subst (λ (l : List KeyValue). IsLooked by road layers l relooked) (sym same) its)
 
-  by_total : (one other : ShownPlaces) → AreFoundByTotal limits road layers one
-      → AreFoundByTotal limits road layers other → AreAlike one other
+  by_total : (one other : ShownPlaces) → AreAskedByTotal asked road layers one
+      → AreAskedByTotal asked road layers other → AreAlike one other
   by_total one other is its =
       let answers = below.list layers.penalties is.answers its.answers is.are_answers
       its.are_answers in
-      let looked = looked_once limits is.answers its.answers is.looked its.looked answers
+      let looked = looked_once asked.limits is.answers its.answers is.looked its.looked answers
       is.is_looked its.is_looked in
-      let theirs = subst (λ (l : Looked). ArePlacesOf limits l its.places) (sym looked)
+      let theirs = subst (λ (l : Looked). ArePlacesOf asked.limits l its.places) (sym looked)
       its.are_places in
       let are = is.are_places in
-      let openers = openers_once limits is.looked.matchings 0 is.places.openers.items
+      let openers = openers_once asked.limits is.looked.matchings 0 is.places.openers.items
       its.places.openers.items (are.openers ∙ sym theirs.openers) are.counted theirs.counted in
-      record {
+      let found : AreAlike is.found its.found = record {
         places = values_by_total _ _ _ _ openers is.are_shown.places_are its.are_shown.places_are;
         looked = is.are_shown.looked_is ∙ are.count ∙ sym theirs.count
             ∙ sym its.are_shown.looked_is;
@@ -209,16 +453,20 @@ module _ (below : LawsBelow) (looking : OneLooking) (limits : PlaceLimits) (road
         next = next_is are is.are_shown ∙ sym (next_is theirs its.are_shown);
         cut = is.are_shown.cut_is ∙ sym its.are_shown.cut_is;
         verdict = verdict_is are is.are_shown ∙ sym (verdict_is theirs its.are_shown);
-      }
+        told = is.are_shown.told_is ∙ sym its.are_shown.told_is;
+        differs = ap names_in (is.are_shown.differs_is ∙ sym its.are_shown.differs_is);
+      } in
+      more_once below asked.detailed None None road layers is.found its.found one other refl found
+      is.is_extended its.is_extended
 
-  by_cost : (one other : ShownPlaces) → AreFoundByCost limits road layers one
-      → AreFoundByCost limits road layers other → AreAlike one other
+  by_cost : (one other : ShownPlaces) → AreAskedByCost asked road layers one
+      → AreAskedByCost asked road layers other → AreAlike one other
   by_cost one other is its =
       let are = is.are_likely in
       let their = its.are_likely in
       let answers = below.list layers.penalties are.answers their.answers are.are_answers
       their.are_answers in
-      let widest = widest_once limits are.widest their.widest are.are_widest their.are_widest in
+      let widest = widest_once asked.limits are.widest their.widest are.are_widest their.are_widest in
       let looked = looked_once are.widest are.answers their.answers are.looked their.looked answers
       are.is_looked (subst (λ (by : PlaceLimits). IsLooked by road layers their.answers their.looked)
       (sym widest) their.is_looked) in
@@ -229,19 +477,19 @@ module _ (below : LawsBelow) (looking : OneLooking) (limits : PlaceLimits) (road
       (sym widest) their.are_looked_at)) in
       let answer = are.is_answer in
       let reanswer = their.is_answer in
-      let listed = one_listed are.places their.places places limits.within in
-      let ending = one_ending limits.within are.looked.ending are.places their.places places
-      ∙ ap (λ (l : Looked). ending_within limits.within their.places l.ending) looked in
+      let listed = one_listed are.places their.places places asked.limits.within in
+      let ending = one_ending asked.limits.within are.looked.ending are.places their.places places
+      ∙ ap (λ (l : Looked). ending_within asked.limits.within their.places l.ending) looked in
       let verdict = answer.verdict_is
       ∙ (λ k. verdict_by (length (looked k).matchings) (listed k) (ending k))
       ∙ sym reanswer.verdict_is in
       let cut = answer.cut_is
-      ∙ one_cut limits.within (next_of are.looked) are.places their.places places
-      ∙ ap (λ (l : Looked). is_cut limits.within their.places (next_of l)) looked
+      ∙ one_cut asked.limits.within (next_of are.looked) are.places their.places places
+      ∙ ap (λ (l : Looked). is_cut asked.limits.within their.places (next_of l)) looked
       ∙ sym reanswer.cut_is in
-      record {
+      let found : AreAlike is.found its.found = record {
         places = values_by_cost _ _ _ _
-            (shown_once are.places their.places places limits _ _ answer.shown reanswer.shown)
+            (shown_once are.places their.places places asked.limits _ _ answer.shown reanswer.shown)
             is.are_shown.places_are its.are_shown.places_are;
         looked = is.are_shown.looked_is ∙ answer.looked_is
             ∙ ap (λ (l : Looked). length l.matchings) looked ∙ sym reanswer.looked_is
@@ -253,81 +501,35 @@ module _ (below : LawsBelow) (looking : OneLooking) (limits : PlaceLimits) (road
             ∙ sym its.are_shown.next_is;
         cut = is.are_shown.cut_is ∙ ap Some cut ∙ sym its.are_shown.cut_is;
         verdict = is.are_shown.verdict_is ∙ verdict ∙ sym its.are_shown.verdict_is;
-      }
-
-  found_once : (order : PlaceOrder) (one other : ShownPlaces)
-      → AreFoundIn limits road layers order one → AreFoundIn limits road layers order other
-      → AreAlike one other
-  found_once Total = by_total
-  found_once Likely = by_cost
-
-  -- what speaks for places of the same values is the same
-  details_once : (ones others details redetails : List ShownPlace)
-      → map shown_value ones ≡ map shown_value others → AreInDetail road layers ones details
-      → AreInDetail road layers others redetails
-      → map shown_value details ≡ map shown_value redetails
-  details_once [] [] [] [] same are their = refl
-  details_once [] [] [] (r ∷ redetails) same are their = absurd their
-  details_once [] [] (d ∷ details) redetails same are their = absurd are
-  details_once [] (other ∷ others) details redetails same are their = absurd cc
-  details_once (one ∷ ones) [] details redetails same are their = absurd cc
-  details_once (one ∷ ones) (other ∷ others) [] redetails same are their = absurd are
-  details_once (one ∷ ones) (other ∷ others) (d ∷ details) [] same are their = absurd their
-  details_once (one ∷ ones) (other ∷ others) (d ∷ details) (r ∷ redetails) same are their =
-      let parts = same_parts (shown_value one) (shown_value other) (map shown_value ones)
-      (map shown_value others) same in
-      let matched = ap (λ (value : ShownValue). value.opener.entry.matched) parts.0 in
-      let route = ap (λ (value : ShownValue). value.opener.entry.route) parts.0 in
-      let detail = below.detail layers.tolerances layers.reference road other.opener.matched
-      other.opener.route.items are.0.detail their.0.detail
-      (subst (λ (pieces : List Piece). IsMatchingDetail layers.tolerances layers.reference road
-      other.opener.matched pieces are.0.detail) route
-      (subst (λ (m : Matched). IsMatchingDetail layers.tolerances layers.reference road m
-      one.opener.route.items are.0.detail) matched are.0.is_detail)) their.0.is_detail in
-      let with_detail : shown_value (record one { detail = Some are.0.detail })
-      ≡ shown_value (record other { detail = Some their.0.detail }) =
-      λ k. record {
-        opener = (parts.0 k).opener;
-        likely = (parts.0 k).likely;
-        detail = Some (detail k);
+        told = is.are_shown.told_is ∙ sym its.are_shown.told_is;
+        differs = ap names_in (is.are_shown.differs_is ∙ sym its.are_shown.differs_is);
       } in
-      let first = ap shown_value are.0.detailed_is ∙ with_detail
-      ∙ sym (ap shown_value their.0.detailed_is) in
-      let rest = details_once ones others details redetails parts.1 are.1 their.1 in
-      λ k. first k ∷ rest k
+      let chances = ap (option_map chances_value) answer.chances_are
+      ∙ chances_if_once below road layers asked.confidence asked.limits.apart are.places their.places
+      are.chances their.chances places are.are_chances their.are_chances
+      ∙ sym (ap (option_map chances_value) reanswer.chances_are) in
+      more_once below asked.detailed is.likely.chances its.likely.chances road layers is.found its.found
+      one other chances found is.is_extended its.is_extended
 
-  in_detail_once : (found refound one other : ShownPlaces) → AreAlike found refound
-      → IsInDetail road layers found one → IsInDetail road layers refound other
+  asked_once : (order : PlaceOrder) (one other : ShownPlaces)
+      → AreAskedIn asked road layers order one → AreAskedIn asked road layers order other
       → AreAlike one other
-  in_detail_once found refound one other same is its = record {
-    places = details_once _ _ _ _ same.places is.places its.places;
-    looked = is.looked_is ∙ same.looked ∙ sym its.looked_is;
-    margin = is.margin_is ∙ same.margin ∙ sym its.margin_is;
-    next = is.next_is ∙ same.next ∙ sym its.next_is;
-    cut = is.cut_is ∙ same.cut ∙ sym its.cut_is;
-    verdict = is.verdict_is ∙ same.verdict ∙ sym its.verdict_is;
-  }
-
-  asked_once : (order : PlaceOrder) (detailed : Bool) (one other : ShownPlaces)
-      → AreAsked limits road layers order detailed one
-      → AreAsked limits road layers order detailed other → AreAlike one other
-  asked_once order false one other is its = found_once order one other is its
-  asked_once order true one other is its =
-      in_detail_once is.0 its.0 one other (found_once order is.0 its.0 is.1 its.1) is.2 its.2
+  asked_once Total = by_total
+  asked_once Likely = by_cost
 
 -- ---- the law
 
 pub one_text : LawsBelow → OneText
-one_text below looking limits road layers order detailed one other sound is its =
+one_text below looking asked road layers one other sound is its =
     same_text road one other
-    (asked_once below looking limits road layers sound order detailed one other is its)
+    (asked_once below looking asked road layers sound asked.order one other is its)
 
 pub one_json : LawsBelow → OneJson
-one_json below looking limits on layers order detailed one other sound is its =
+one_json below looking asked on layers one other sound is its =
     same_json on one other
-    (asked_once below looking limits on.road layers sound order detailed one other is its)
+    (asked_once below looking asked on.road layers sound asked.order one other is its)
 
 pub one_geojson : LawsBelow → OneGeoJson
-one_geojson below looking limits on layers reference part order detailed one other sound is its =
+one_geojson below looking asked on layers reference part one other sound is its =
     same_geojson on reference part one other
-    (asked_once below looking limits on.road layers sound order detailed one other is its)
+    (asked_once below looking asked on.road layers sound asked.order one other is its)

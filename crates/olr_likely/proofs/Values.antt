@@ -1,5 +1,6 @@
 -- Places by what text and JSON show of them, which is one value.
-use Rattle.std.proofs.Common.{◌≡◌, ℕ, ◌+◌, List, [], ◌∷◌, ◌++◌, map, Option, None, Some, refl, sym, ap, ◌∙◌}
+use Rattle.std.proofs.Common.{◌≡◌, ℕ, ◌+◌, List, [], ◌∷◌, ◌++◌, map, Option, None, Some, option_map, refl, sym, ap, ◌∙◌}
+use Rattle.std.specs.Global.{Vec}
 use Rattle.olr_binary.specs.declared.reference.Reference.{Reference}
 use Rattle.olr_road.specs.RoadMap.{RoadMap}
 use Rattle.olr_text.specs.Texts.{texts_from}
@@ -15,6 +16,14 @@ use Rattle.olr_places.specs.declared.opener.Opener.{Opener}
 use Rattle.olr_likely.specs.GeoJson.{place_feature, shown_collection}
 use Rattle.olr_likely.specs.Json.{opener_object, place_object, shown_object}
 use Rattle.olr_likely.specs.Text.{place_rows, shown_text}
+use Rattle.olr_confidence.specs.declared.asked.AskedName.{AskedName}
+use Rattle.olr_confidence.specs.declared.confidence.Confidence.{Confidence}
+use Rattle.olr_text.specs.JsonValues.{array_of}
+use Rattle.olr_confidence.specs.Json.{name_value}
+use Rattle.olr_likely.specs.Extending.{names_in}
+use Rattle.olr_likely.specs.Values.{ToldPlaceValue}
+use Rattle.olr_likely.specs.declared.chances.Chances.{Chances}
+use Rattle.olr_likely.specs.declared.chances.KnownChances.{KnownChances}
 use Rattle.olr_likely.specs.declared.ranked.RankedPlace.{RankedPlace}
 use Rattle.olr_likely.specs.declared.showing.RankAndCost.{RankAndCost}
 use Rattle.olr_likely.specs.declared.showing.ShownPlace.{ShownPlace}
@@ -64,10 +73,40 @@ pub record ShownValue : Type 0 where
   pub opener : OpenerValue
   pub likely : Option RankAndCost
   pub detail : Option MatchingDetail
+  pub told : Option (Option ToldPlaceValue)
 
 abbrev pub shown_value : ShownPlace → ShownValue
-shown_value place =
-    record { opener = opener_value place.opener; likely = place.likely; detail = place.detail }
+shown_value place = record {
+  opener = opener_value place.opener;
+  likely = place.likely;
+  detail = place.detail;
+  told = place.told;
+}
+
+-- of what a confidence says of all places
+pub record KnownValue : Type 0 where
+  pub places : List ℕ
+  pub none : ℕ
+  pub least : ℕ
+
+abbrev pub known_value : KnownChances → KnownValue
+known_value known = record {
+  places = known.probabilities.places.items;
+  none = known.probabilities.none;
+  least = known.least;
+}
+
+pub record ChancesValue : Type 0 where
+  pub confidence : Confidence
+  pub differs : List AskedName
+  pub known : Option KnownValue
+
+abbrev pub chances_value : Chances → ChancesValue
+chances_value chances = record {
+  confidence = chances.confidence;
+  differs = chances.differs.items;
+  known = option_map known_value chances.known;
+}
 
 -- places as they are shown have the same values
 pub record AreAlike (one other : ShownPlaces) : Type 0 where
@@ -77,6 +116,8 @@ pub record AreAlike (one other : ShownPlaces) : Type 0 where
   pub next : one.next ≡ other.next
   pub cut : one.cut ≡ other.cut
   pub verdict : one.verdict ≡ other.verdict
+  pub told : one.told ≡ other.told
+  pub differs : names_in one.differs ≡ names_in other.differs
 
 -- ---- what is shown
 
@@ -114,6 +155,18 @@ module _ (road : RoadMap) where
     are.verdict,
     are.next,
   ) refl
+
+-- the same names are written alike
+same_differs : (one other : Option (Vec AskedName)) → names_in one ≡ names_in other
+    → option_map (λ (names : Vec AskedName). array_of name_value names.items) one
+    ≡ option_map (λ (names : Vec AskedName). array_of name_value names.items) other
+same_differs None None same = refl
+same_differs None (Some other) same = absurd cc
+same_differs (Some one) None same = absurd cc
+same_differs (Some one) (Some other) same = ap Some (ap (array_of name_value) (some_same same))
+  where
+    some_same : {x y : List AskedName} → Some x ≡ Some y → x ≡ y
+    some_same is = cc
 
 -- what is made of each place is the same
 same_each : {A : Type 0} (made : ShownPlace → A)
@@ -153,6 +206,7 @@ module _ (on : MapShown) where
     ap (λ (value : ShownValue). value.likely) same,
     ap (λ (value : ShownValue). value.opener.gap) same,
     ap (λ (value : ShownValue). value.opener.members) same,
+    ap (λ (value : ShownValue). value.told) same,
   ) refl
 
   pub same_json : (one other : ShownPlaces) → AreAlike one other
@@ -165,6 +219,8 @@ module _ (on : MapShown) where
     are.verdict,
     are.next,
     are.cut,
+    are.told,
+    same_differs one.differs other.differs are.differs,
   ) refl
 
   module _ (reference : Reference) (part : RoutePart) where
@@ -187,4 +243,6 @@ module _ (on : MapShown) where
       are.verdict,
       are.next,
       are.cut,
+      are.told,
+      same_differs one.differs other.differs are.differs,
     ) refl

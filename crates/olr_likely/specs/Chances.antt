@@ -1,8 +1,8 @@
 -- How probable the places are that were looked at, by a confidence.
-use Rattle.std.specs.Prelude.{◌≡◌, ℕ, Bool, true, false, ◌&&◌, is_empty, List, length, Option, None, Some}
+use Rattle.std.specs.Prelude.{◌≡◌, ℕ, Bool, true, false, List, [], ◌∷◌, length, Option, None, Some}
 use Rattle.std.specs.List.{AllZip}
 use Rattle.olr_binary.specs.declared.reference.Reference.{Reference}
-use Rattle.olr_binary.specs.declared.reference.Reference.TheVariants.{Line, PointAlong}
+use Rattle.olr_binary.specs.declared.reference.Reference.TheVariants.{Line}
 use Rattle.olr_candidates.specs.declared.tolerances.Tolerances.{Tolerances}
 use Rattle.olr_confidence.specs.Asked.{asked_with, others_of}
 use Rattle.olr_confidence.specs.Terms.{AreTermsOf}
@@ -35,7 +35,8 @@ is_line other = false
 
 -- how probable places are is known of a line where no number differs
 abbrev pub are_known : List AskedName → Reference → Bool
-are_known differs reference = is_empty differs && is_line reference
+are_known [] reference = is_line reference
+are_known (name ∷ names) reference = false
 
 -- what counts for and against each place
 abbrev pub AreTermsOfPlaces : RoadMap → LayersValue → List RankedPlace → List Terms → Type 0

@@ -1,5 +1,6 @@
 -- Places with more than they always show: what speaks for each, and how probable it is.
 use Rattle.std.specs.Prelude.{◌≡◌, ℕ, ◌-◌, Bool, true, false, if◌then◌else◌, List, length, Option, None, Some, option_map, option_and_then, slice_index_or}
+use Rattle.std.specs.Global.{Vec}
 use Rattle.std.specs.List.{AllZip}
 use Rattle.olr_binary.specs.declared.reference.Reference.{Reference}
 use Rattle.olr_candidates.specs.declared.tolerances.Tolerances.{Tolerances}
@@ -9,7 +10,9 @@ use Rattle.olr_road.specs.RoadMap.{RoadMap}
 use Rattle.olr_matching.specs.Layers.{LayersValue}
 use Rattle.olr_detail.specs.MatchingDetail.{IsMatchingDetail}
 use Rattle.olr_detail.specs.declared.matching_detail.MatchingDetail.{MatchingDetail}
-use Rattle.olr_likely.specs.Values.{ToldPlaceValue, ToldPlacesValue}
+use Rattle.olr_confidence.specs.declared.asked.AskedName.{AskedName}
+use Rattle.olr_likely.specs.Values.{ToldPlaceValue}
+use Rattle.olr_likely.specs.declared.told.ToldPlaces.{ToldPlaces}
 use Rattle.olr_likely.specs.declared.chances.Chances.{Chances}
 use Rattle.olr_likely.specs.declared.chances.KnownChances.{KnownChances}
 use Rattle.olr_likely.specs.declared.showing.RankAndCost.{RankAndCost}
@@ -46,14 +49,20 @@ IsTold (Some chances) place detail None = ⊥
 IsTold (Some chances) place detail (Some said) =
     IsSaidIf chances.confidence.weights chances.known place detail said
 
--- of all places: nothing but which numbers differ where no more is known
-abbrev pub told_of : Chances → ToldPlacesValue
+-- of all places, if it is known how probable they are
+abbrev pub told_of : Chances → ToldPlaces
 told_of chances = record {
   none = option_map (λ (known : KnownChances). known.probabilities.none) chances.known;
   map_differs = option_and_then (λ (known : KnownChances). chances.confidence.map_differs)
       chances.known;
-  differs = chances.differs.items;
 }
+
+-- which numbers differ
+abbrev pub differs_of : Chances → List AskedName
+differs_of chances = chances.differs.items
+
+abbrev pub names_in : Option (Vec AskedName) → Option (List AskedName)
+names_in differs = option_map (λ (names : Vec AskedName). names.items) differs
 
 -- ---- places with more
 
@@ -81,6 +90,7 @@ module _ (detailed : Bool) (chances : Option Chances) where
     pub record AreExtended (shown extended : ShownPlaces) : Type 0 where
       pub places : AreExtendedPlaces shown.places.items extended.places.items
       pub told_is : extended.told ≡ option_map told_of chances
+      pub differs_are : names_in extended.differs ≡ option_map differs_of chances
       pub looked_is : extended.looked ≡ shown.looked
       pub margin_is : extended.margin ≡ shown.margin
       pub next_is : extended.next ≡ shown.next

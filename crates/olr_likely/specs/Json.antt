@@ -1,7 +1,8 @@
 -- The JSON of places as they are shown, as a value: each member of an object under its name, in the
 -- order of the names. All numbers are whole; gaps are in penalty points, costs in thirtieths of one.
 use Rattle.std.specs.Prelude.{Option, None, Some, codes, option_map}
-use Rattle.serde_json.specs.Data.{Data, boolean, string, object, no_members, member}
+use Rattle.std.specs.Global.{Vec}
+use Rattle.serde_json.specs.Data.{Data, Members, boolean, string, object, no_members, member}
 use Rattle.olr_text.specs.JsonValues.{array_of, maybe_member, or_null, whole, whole_or_null}
 use Rattle.olr_confidence.specs.Json.{name_value, range_object, reason_object}
 use Rattle.olr_report.specs.Json.{entry_object, next_value}
@@ -14,7 +15,9 @@ use Rattle.olr_detail.specs.declared.matching_detail.MatchingDetail.{MatchingDet
 use Rattle.olr_places.specs.Places.{entry_of}
 use Rattle.olr_places.specs.Verdict.{verdict_word}
 use Rattle.olr_places.specs.declared.opener.Opener.{Opener}
-use Rattle.olr_likely.specs.Values.{ToldPlaceValue, ToldPlacesValue}
+use Rattle.olr_confidence.specs.declared.asked.AskedName.{AskedName}
+use Rattle.olr_likely.specs.Values.{ToldPlaceValue}
+use Rattle.olr_likely.specs.declared.told.ToldPlaces.{ToldPlaces}
 use Rattle.olr_likely.specs.declared.showing.ShownPlace.{ShownPlace}
 use Rattle.olr_likely.specs.declared.showing.ShownPlaces.{ShownPlaces}
 
@@ -57,27 +60,32 @@ place_object on part place = object (
 -- sender's map is, and how probable it is that none of the places is right
 abbrev pub differs_value : ShownPlaces → Option Data
 differs_value shown =
-    option_map (λ (told : ToldPlacesValue). array_of name_value told.differs) shown.told
+    option_map (λ (names : Vec AskedName). array_of name_value names.items) shown.differs
 
 abbrev pub map_differs_value : ShownPlaces → Option Data
 map_differs_value shown =
-    option_map (λ (told : ToldPlacesValue). or_null range_object told.map_differs) shown.told
+    option_map (λ (told : ToldPlaces). or_null range_object told.map_differs) shown.told
 
 abbrev pub none_value : ShownPlaces → Option Data
 none_value shown =
-    option_map (λ (told : ToldPlacesValue). whole_or_null told.none) shown.told
+    option_map (λ (told : ToldPlaces). whole_or_null told.none) shown.told
 
--- The object of the places that are shown: in the likely order whether a place may be missing; how
--- many matchings were looked at, the margin, the cursor after which looking would go on, the places,
--- and the verdict; and what a confidence says of all, where one is given.
-abbrev pub shown_object : MapShown → ShownPlaces → Data
-shown_object on shown = object (
-    maybe_member (codes "cut") (option_map boolean shown.cut) (
-    maybe_member (codes "differs") (differs_value shown) (
+-- the members of the places that are shown: how many matchings were looked at, the margin, the
+-- cursor after which looking would go on, the places, and the verdict; and what a confidence says of
+-- all
+abbrev pub shown_members : MapShown → ShownPlaces → Members
+shown_members on shown =
     member (codes "looked") (whole shown.looked) (
     maybe_member (codes "map_differs") (map_differs_value shown) (
     member (codes "margin") (whole_or_null shown.margin) (
     member (codes "next") (next_value shown.next None) (
     maybe_member (codes "none_of_these") (none_value shown) (
     member (codes "places") (array_of (place_object on None) shown.places.items) (
-    member (codes "verdict") (string (verdict_word shown.verdict)) no_members)))))))))
+    member (codes "verdict") (string (verdict_word shown.verdict)) no_members))))))
+
+-- their object, which in the likely order says whether a place may be missing, and where a confidence
+-- is given which numbers differ
+abbrev pub shown_object : MapShown → ShownPlaces → Data
+shown_object on shown = object (
+    maybe_member (codes "cut") (option_map boolean shown.cut) (
+    maybe_member (codes "differs") (differs_value shown) (shown_members on shown)))

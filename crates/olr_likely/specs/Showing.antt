@@ -1,5 +1,5 @@
 -- Places as they are shown: in the order of totals or in the likely order.
-use Rattle.std.specs.Prelude.{◌≡◌, List, map, None, Some}
+use Rattle.std.specs.Prelude.{◌≡◌, map, None, Some}
 use Rattle.olr_road.specs.RoadMap.{RoadMap}
 use Rattle.olr_matching.specs.Layers.{LayersValue}
 use Rattle.olr_places.specs.Places.{IsOpenerAt, verdict_in}
@@ -33,6 +33,7 @@ pub record AreShownByTotal (places : Places) (shown : ShownPlaces) : Type 0 wher
   pub cut_is : shown.cut ≡ None
   pub verdict_is : shown.verdict ≡ verdict_in places
   pub told_is : shown.told ≡ None
+  pub differs_is : shown.differs ≡ None
 
 -- and in the likely order
 pub record AreShownByCost (likely : LikelyPlaces) (shown : ShownPlaces) : Type 0 where
@@ -43,6 +44,7 @@ pub record AreShownByCost (likely : LikelyPlaces) (shown : ShownPlaces) : Type 0
   pub cut_is : shown.cut ≡ Some likely.cut
   pub verdict_is : shown.verdict ≡ likely.verdict
   pub told_is : shown.told ≡ None
+  pub differs_is : shown.differs ≡ None
 
 -- the place was opened by a matching of these layers
 abbrev pub IsShownAt : RoadMap → LayersValue → ShownPlace → Type 0

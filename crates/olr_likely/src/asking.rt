@@ -50,9 +50,8 @@ fn asked_by_cost(
     requires searches { AreSearchesOn map.now searches }
     ensures { IfOk result (AreAskedByCost asked.now map.now layers.now) }
 {
-    let mut likely = likely_places(alloc, map, layers, searches, asked)?;
-    let chances = likely.chances.take();
-    let found = shown_by_cost(alloc, likely)?;
+    let likely = likely_places(alloc, map, layers, searches, asked)?;
+    let (found, chances) = shown_by_cost(alloc, likely)?;
     let more = More {
         detailed: asked.detailed,
         chances: &chances,

@@ -1,10 +1,10 @@
 //! Places with more than they always show: what speaks for each, and how probable it is.
 
-ghost use Rattle.std.specs.Prelude.{◌≡◌, All, IfOk, None, option_map};
+ghost use Rattle.std.specs.Prelude.{◌≡◌, All, IfOk, None, Some, if◌then◌else◌, option_map};
 ghost use Rattle.olr_matching.specs.Layers.{AreLayersOn};
-ghost use Rattle.olr_detail.specs.MatchingDetail.{CanBeDetailed, IsMatchingDetail};
+ghost use Rattle.olr_detail.specs.MatchingDetail.{CanBeDetailed};
 ghost use Rattle.olr_report.specs.Entries.{HasPieces};
-ghost use Rattle.olr_likely.specs.Extending.{AreExtended, AreExtendedPlaces, IsExtended, IsExtendedPlace, IsSaid, IsTold, probability_at, told_of};
+ghost use Rattle.olr_likely.specs.Extending.{AreExtendedPlaces, IsExtended, IsExtendedPlace, IsSaid, IsTold, differs_of, names_in, probability_at, told_of};
 ghost use Rattle.olr_likely.specs.Showing.{IsShownAt};
 
 use crate::chances::{Chances, KnownChances};
@@ -12,7 +12,7 @@ use crate::showing::{RankAndCost, ShownPlace, ShownPlaces};
 use crate::told::{ToldPlace, ToldPlaces};
 use olr_base::NoMemory;
 use olr_candidates::ReferenceOnMap;
-use olr_confidence::reasons_of;
+use olr_confidence::{AskedName, reasons_of};
 use olr_detail::{MatchingDetail, detail_of_matching, matchings_can_be_detailed};
 use olr_matching::Layers;
 use olr_road::Map;
@@ -78,26 +78,35 @@ fn told(
     Ok(Some(Some(said)))
 }
 
+/// What speaks for a matching, where it is shown.
+fn kept_if(detailed: bool, detail: MatchingDetail) -> Option<MatchingDetail>
+    ensures { result ≡ (if detailed then Some detail else None) }
+{
+    if detailed { Some(detail) } else { None }
+}
+
 /// A place with more.
 fn extended_place(
     alloc: Global,
     on: &ReferenceOnMap<'_>,
     more: More<'_>,
-    mut place: ShownPlace,
+    place: ShownPlace,
 ) -> Result<ShownPlace, NoMemory>
     requires matched { CanBeDetailed on.now.tolerances on.now.reference.now on.now.map.now
         place.opener.matched }
     requires route { HasPieces on.now.map.now place.opener.route.items }
-    ensures { IfOk result (IsExtendedPlace more.detailed more.chances.now on.now.tolerances
+    ensures { IfOk result (IsExtendedPlace more.entry.detailed more.entry.chances.now on.now.tolerances
         on.now.reference.now on.now.map.now place) }
 {
     let opener = &place.opener;
     let detail = detail_of_matching(alloc, on, &opener.matched, &opener.route)?;
-    place.told = told(alloc, more.chances, &place, &detail)?;
-    if more.detailed {
-        place.detail = Some(detail);
-    }
-    Ok(place)
+    let told = told(alloc, more.chances, &place, &detail)?;
+    let detail = kept_if(more.detailed, detail);
+    Ok(ShownPlace {
+        detail,
+        told,
+        ..place
+    })
 }
 
 /// Places with more.
@@ -110,7 +119,7 @@ fn extended_places(
 ) -> Result<Vec<ShownPlace>, NoMemory>
     requires layers { AreLayersOn map.now layers.now }
     requires places { All (IsShownAt map.now layers.now) places.items }
-    ensures { IfOk result (λ extended. AreExtendedPlaces more.detailed more.chances.now map.now
+    ensures { IfOk result (λ extended. AreExtendedPlaces more.entry.detailed more.entry.chances.now map.now
         layers.now places.items extended.items) }
 {
     matchings_can_be_detailed();
@@ -127,22 +136,30 @@ fn extended_places(
 }
 
 /// What a confidence says of all places.
-fn told_of(alloc: Global, chances: &Chances) -> Result<ToldPlaces, NoMemory>
-    ensures { IfOk result (λ told. told ≡ told_of chances.now) }
+fn told_of(chances: &Chances) -> ToldPlaces
+    ensures { result ≡ told_of chances.now }
 {
-    let differs = chances.differs.clone()?;
-    let Some(known) = &chances.known else {
-        return Ok(ToldPlaces {
+    match &chances.known {
+        Some(known) => ToldPlaces {
+            none: Some(known.probabilities.none),
+            map_differs: chances.confidence.map_differs,
+        },
+        None => ToldPlaces {
             none: None,
             map_differs: None,
-            differs,
-        });
+        },
+    }
+}
+
+/// The names of the numbers that differ, where a confidence is given.
+fn differs_of(chances: &Option<Chances>) -> Result<Option<Vec<AskedName>>, NoMemory>
+    ensures { IfOk result (λ differs. names_in differs ≡ option_map differs_of chances.now) }
+{
+    let Some(chances) = chances else {
+        return Ok(None);
     };
-    Ok(ToldPlaces {
-        none: Some(known.probabilities.none),
-        map_differs: chances.confidence.map_differs,
-        differs,
-    })
+    let differs = chances.differs.clone()?;
+    Ok(Some(differs))
 }
 
 /// The same places with more, if more is asked for.
@@ -155,18 +172,16 @@ pub(crate) fn extended(
 ) -> Result<ShownPlaces, NoMemory>
     requires layers { AreLayersOn map.now layers.now }
     requires places { All (IsShownAt map.now layers.now) shown.places.items }
-    ensures { IfOk result (IsExtended more.detailed more.chances.now map.now layers.now shown) }
+    ensures { IfOk result (IsExtended more.entry.detailed more.entry.chances.now map.now layers.now shown) }
 {
     if !more.detailed && more.chances.is_none() {
         return Ok(shown);
     }
-    let told = match more.chances {
-        Some(chances) => Some(told_of(alloc, chances)?),
-        None => None,
-    };
+    let differs = differs_of(more.chances)?;
     Ok(ShownPlaces {
         places: extended_places(alloc, map, layers, more, shown.places)?,
-        told,
+        told: more.chances.as_ref().map(told_of),
+        differs,
         ..shown
     })
 }

@@ -8,7 +8,7 @@ ghost use Rattle.olr_report.specs.ShownMap.{map_shown};
 ghost use Rattle.olr_likely.specs.GeoJson.{before_places, maybe_before, place_feature, places_members, shown_collection};
 ghost use Rattle.olr_likely.specs.Json.{differs_value};
 
-use crate::json::{DrawnPlace, differs_of, map_differs_of, none_of};
+use crate::json::{DrawnPlace, map_differs_of, none_of};
 use crate::showing::{ShownPlace, ShownPlaces};
 use olr_base::NoMemory;
 use olr_detail::{Drawing, push_drawn};
@@ -98,10 +98,10 @@ fn push_differs(alloc: Global, shown: &ShownPlaces, out: &mut String) -> Result<
     ensures { OnOk result (string_bytes out.new
         ≡ string_bytes out.old ++ maybe_before (codes "differs") (differs_value shown.now)) }
 {
-    let Some(names) = differs_of(shown) else {
+    let Some(names) = &shown.differs else {
         return Ok(());
     };
-    let value = to_json_text(alloc, &(), &names)?;
+    let value = to_json_text(alloc, &(), names)?;
     out.push_str("\"differs\":")?;
     out.push_str(&value)?;
     out.push(',')?;

@@ -1,18 +1,22 @@
 //! The JSON of places as they are shown.
 
-ghost use Rattle.std.specs.Prelude.{◌≡◌, IfOk, None, option_map, string_bytes};
+ghost use Rattle.std.specs.Prelude.{◌≡◌, ◌≤◌, IfOk, None, option_map, string_bytes};
 ghost use Rattle.olr_report.specs.ShownMap.{map_shown};
 ghost use Rattle.olr_text.specs.JsonValues.{IsJsonLine, array_of, or_null, whole, whole_or_null};
-ghost use Rattle.olr_confidence.specs.Json.{name_value, range_object, reason_object};
-ghost use Rattle.olr_likely.specs.Json.{cost_value, differs_value, map_differs_value, none_value, opener_object, place_object, probability_value, rank_value, reasons_value, shown_object};
+ghost use Rattle.olr_confidence.specs.Json.{range_object, reason_object};
+ghost use Rattle.olr_likely.specs.Json.{cost_value, map_differs_value, none_value, opener_object, place_object, probability_value, rank_value, reasons_value, shown_members, shown_object};
+ghost use Rattle.olr_report.specs.ShownMap.{MapShown};
+ghost use Rattle.serde_json.specs.Events.{members_len};
 
 use crate::showing::{ShownPlace, ShownPlaces};
 use olr_base::NoMemory;
-use olr_confidence::{AskedName, MapRange, Reason};
+use olr_confidence::{MapRange, Reason};
 use olr_detail::{MatchingDetail, ShownInDetail};
 use olr_places::Opener;
 use olr_report::{RoutePart, ShownMap, ShownMatching, next_cursor, word_drawn};
-use olr_text::{ToJson, send_object, to_json_line};
+use olr_text::{
+    MaybeMember, ToJson, ToMembers, count_if, members, send_counted, send_object, to_json_line,
+};
 use serde::Serializer;
 
 /// The matching that opened a place, with what speaks for it where that is asked for.
@@ -142,14 +146,6 @@ impl ToJson<ShownMap<'_>> for ShownPlace {
     }
 }
 
-/// The names of the numbers that differ from those of a confidence, where one is given.
-pub(crate) fn differs_of(shown: &ShownPlaces) -> Option<&[AskedName]>
-    ensures { option_map (λ names. array_of name_value names.now) result ≡ differs_value shown.now }
-{
-    let told = shown.told.as_ref()?;
-    Some(told.differs.as_slice())
-}
-
 /// How different the sender's map is, where a confidence is given.
 pub(crate) fn map_differs_of(shown: &ShownPlaces) -> Option<Option<MapRange>>
     ensures { option_map (or_null range_object) result ≡ map_differs_value shown.now }
@@ -166,28 +162,59 @@ pub(crate) fn none_of(shown: &ShownPlaces) -> Option<Option<u64>>
     Some(told.none)
 }
 
+/// The members of the places that are shown, behind those that it hasn't always.
+#[derive(Clone, Copy)]
+struct ShownMembers<'a> {
+    shown: &'a ShownPlaces,
+}
+
+impl ToMembers<ShownMap<'_>> for ShownMembers<'_> {
+    ghost members = { λ on behind. shown_members (map_shown on) behind.shown.now };
+
+    fn send_members<S: Serializer>(&self, on: &ShownMap<'_>, out: &mut S) -> Result<(), S::Error> {
+        let shown = self.shown;
+        let map_differs = map_differs_of(shown);
+        let next = next_cursor(shown.next.as_ref(), None);
+        let none = none_of(shown);
+        let verdict = shown.verdict.word();
+        let members = members!(
+            "looked": shown.looked,
+            "map_differs"?: map_differs,
+            "margin": shown.margin,
+            "next": next,
+            "none_of_these"?: none,
+            "places": shown.places,
+            "verdict": verdict,
+        );
+        members.send_members(on, out)
+    }
+}
+
+/// How many members these are.
+fn count_of_members(shown: &ShownPlaces) -> usize
+    ensures count { (on : MapShown) → result ≡ members_len (shown_members on shown.now) }
+    ensures at_most { result ≤ 7 }
+{
+    count_if(&map_differs_of(shown)) + count_if(&none_of(shown)) + 5
+}
+
 /// The object of the places that are shown.
 impl ToJson<ShownMap<'_>> for ShownPlaces {
     ghost value = { λ on. shown_object (map_shown on) };
 
     fn send<S: Serializer>(&self, on: &ShownMap<'_>, out: &mut S) -> Result<(), S::Error> {
         let cut = self.cut;
-        let differs = differs_of(self);
-        let map_differs = map_differs_of(self);
-        let next = next_cursor(self.next.as_ref(), None);
-        let none = none_of(self);
-        let verdict = self.verdict.word();
-        send_object!(on, out, {
-            "cut"?: cut,
-            "differs"?: differs,
-            "looked": self.looked,
-            "map_differs"?: map_differs,
-            "margin": self.margin,
-            "next": next,
-            "none_of_these"?: none,
-            "places": self.places,
-            "verdict": verdict,
-        })
+        let count = count_if(&cut) + count_if(&self.differs) + count_of_members(self);
+        let members = MaybeMember {
+            name: "cut",
+            value: &cut,
+            others: MaybeMember {
+                name: "differs",
+                value: &self.differs,
+                others: ShownMembers { shown: self },
+            },
+        };
+        send_counted(count, &members, on, out)
     }
 }
 

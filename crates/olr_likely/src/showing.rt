@@ -7,9 +7,11 @@ ghost use Rattle.olr_places.specs.Places.{IsOpenerAt};
 ghost use Rattle.olr_likely.specs.Showing.{AreShownByCost, AreShownByTotal, IsShownAt, shown_by_cost, shown_by_total};
 
 use crate::answer::LikelyPlaces;
+use crate::chances::Chances;
 use crate::ranked::RankedPlace;
 use crate::told::{ToldPlace, ToldPlaces};
 use olr_base::NoMemory;
+use olr_confidence::AskedName;
 use olr_detail::MatchingDetail;
 use olr_keys::Key;
 use olr_places::{Opener, Places, Verdict};
@@ -54,6 +56,9 @@ pub struct ShownPlaces {
     pub verdict: Verdict,
     /// What a confidence says of all places, where one is given.
     pub told: Option<ToldPlaces>,
+    /// The names of the numbers by which places were asked for that aren't those of the confidence,
+    /// where one is given.
+    pub differs: Option<Vec<AskedName>>,
 }
 
 /// The places of these openers, as the order of totals shows them.
@@ -118,19 +123,25 @@ pub(crate) fn shown_by_total(alloc: Global, places: Places) -> Result<ShownPlace
         cut: None,
         verdict,
         told: None,
+        differs: None,
     })
 }
 
-/// Places in the likely order, as they are shown.
+/// Places in the likely order, as they are shown, and what a confidence says of all that were looked
+/// at, if one is given.
 ///
 /// # Errors
 ///
 /// [`NoMemory`] where the allocator refused memory.
-pub(crate) fn shown_by_cost(alloc: Global, likely: LikelyPlaces) -> Result<ShownPlaces, NoMemory>
-    ensures shown { IfOk result (AreShownByCost likely) }
-    ensures openers { IfOk result (λ shown. (road : RoadMap) (layers : LayersValue)
+pub(crate) fn shown_by_cost(
+    alloc: Global,
+    likely: LikelyPlaces,
+) -> Result<(ShownPlaces, Option<Chances>), NoMemory>
+    ensures shown { IfOk result (λ found. AreShownByCost likely found.0) }
+    ensures chances { IfOk result (λ found. found.1 ≡ likely.chances) }
+    ensures openers { IfOk result (λ found. (road : RoadMap) (layers : LayersValue)
         → All (λ place. IsOpenerAt road layers place.opener) likely.places.items
-        → All (IsShownAt road layers) shown.places.items) }
+        → All (IsShownAt road layers) found.0.places.items) }
 {
     let LikelyPlaces {
         places,
@@ -139,9 +150,9 @@ pub(crate) fn shown_by_cost(alloc: Global, likely: LikelyPlaces) -> Result<Shown
         margin,
         cut,
         verdict,
-        chances: _,
+        chances,
     } = likely;
-    Ok(ShownPlaces {
+    let shown = ShownPlaces {
         places: places_by_cost(alloc, places)?,
         looked,
         margin,
@@ -149,5 +160,7 @@ pub(crate) fn shown_by_cost(alloc: Global, likely: LikelyPlaces) -> Result<Shown
         cut: Some(cut),
         verdict,
         told: None,
-    })
+        differs: None,
+    };
+    Ok((shown, chances))
 }

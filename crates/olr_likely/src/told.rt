@@ -1,6 +1,6 @@
 //! What is told of places by a confidence.
 
-use olr_confidence::{AskedName, MapRange, Reason};
+use olr_confidence::{MapRange, Reason};
 use std::marker::Model;
 
 /// What is told of a place.
@@ -21,25 +21,11 @@ impl Model for ToldPlace {
 }
 
 /// What is told of all places together.
-#[derive(Debug, Drop)]
+#[derive(Clone, Copy, Debug, PartialEq, Eq)]
 pub struct ToldPlaces {
     /// How probable it is that none of those that were looked at is right, in millionths, if that is
     /// known.
     pub none: Option<u64>,
     /// How different the sender's map is, if that is known.
     pub map_differs: Option<MapRange>,
-    /// The names of the numbers by which places were asked for that aren't those of the confidence.
-    pub differs: Vec<AskedName>,
-}
-
-impl Model for ToldPlaces {
-    ghost use Rattle.olr_likely.specs.Values.{ToldPlacesValue};
-
-    ghost Value = { ToldPlacesValue };
-
-    ghost view = { λ told. record {
-      none = told.none;
-      map_differs = told.map_differs;
-      differs = told.differs.items;
-    } };
 }

@@ -11,6 +11,7 @@ returns g c =
     let written = g.S.Serializer.written in
     subst (λ (value : Data). OnOk c.send_object.result
     (Sends value (written c.args.out.now) (written c.send_object.new.out)))
-    (same_place (map_shown c.args.on.now) c.args.self.now.part c.args.self.now.place.now _ _ _
-    c.cost_of-cost.ensures c.word_drawn-part.ensures c.rank_of-rank.ensures)
+    (same_place (map_shown c.args.on.now) c.args.self.now.part c.args.self.now.place.now _ _ _ _ _
+    c.cost_of-cost.ensures c.word_drawn-part.ensures c.probability_of-probability.ensures
+    c.rank_of-rank.ensures c.reasons_of-reasons.ensures)
     c.send_object.ensures

@@ -1,12 +1,13 @@
 use Rattle.std.proofs.Common.{List, length, sym, ap, subst, ◌∙◌, arith}
 use Rattle.std.proofs.lemmas.List.Elements.{AllZip-push}
-use Rattle.olr_likely.specs.Showing.{AreInDetail, IsPlaceInDetail, IsShownAt}
+use Rattle.olr_likely.specs.Extending.{AreExtendedPlaces, IsExtendedPlace}
+use Rattle.olr_likely.specs.Showing.{IsShownAt}
 use Rattle.olr_likely.specs.declared.showing.ShownPlace.{ShownPlace}
 use Rattle.olr_likely.proofs.Turns.{all_taken, next_holds, one_taken}
-use Rattle.olr_likely.proofs.showing.places_in_detail.Goals as goal
+use Rattle.olr_likely.proofs.extending.extended_places.Goals as goal
 
-pub place_in_detail-requires-clause-matched : goal.place_in_detail-requires-clause-matched
-place_in_detail-requires-clause-matched c =
+pub extended_place-requires-clause-matched : goal.extended_place-requires-clause-matched
+extended_place-requires-clause-matched c =
     let at = c.loop-place in
     let is = next_holds (IsShownAt c.args.map.now c.args.layers.now) at.yielded c.in-Some.place _ _ _
     c.in-Some.ensures.steps.0 at.invariant.left
@@ -14,8 +15,8 @@ place_in_detail-requires-clause-matched c =
     rw (c.tolerances.ensures, c.reference.ensures)
     (c.matchings_can_be_detailed.ensures _ _ _ _ c.requires.layers is.is_entry.parts)
 
-pub place_in_detail-requires-clause-route : goal.place_in_detail-requires-clause-route
-place_in_detail-requires-clause-route c =
+pub extended_place-requires-clause-route : goal.extended_place-requires-clause-route
+extended_place-requires-clause-route c =
     let at = c.loop-place in
     let is = next_holds (IsShownAt c.args.map.now c.args.layers.now) at.yielded c.in-Some.place _ _ _
     c.in-Some.ensures.steps.0 at.invariant.left
@@ -29,9 +30,9 @@ loop-place-preserved c =
     record {
       left = one_taken at.yielded c.in-Some.place _ _ _ steps.0 at.invariant.left;
       so_far = rw c.in_ok-push.ensures.items (AllZip-push
-          (IsPlaceInDetail c.args.layers.now.tolerances c.args.layers.now.reference
-          c.args.map.now) at.yielded at.detailed.items _ _ at.invariant.so_far
-          (rw (← c.tolerances.ensures, ← c.reference.ensures) c.in_ok-place_in_detail.ensures));
+          (IsExtendedPlace c.args.more.detailed c.args.more.chances.now c.args.layers.now.tolerances c.args.layers.now.reference
+          c.args.map.now) at.yielded at.extended.items _ _ at.invariant.so_far
+          (rw (← c.tolerances.ensures, ← c.reference.ensures) c.in_ok-extended_place.ensures));
       count = omega (
         arith,
         at.invariant.count,
@@ -43,7 +44,8 @@ loop-place-preserved c =
 pub returns : goal.returns
 returns c =
     let at = c.loop-place in
-    subst (λ (l : List ShownPlace). AreInDetail c.args.map.now c.args.layers.now l at.detailed.items)
+    subst (λ (l : List ShownPlace). AreExtendedPlaces c.args.more.detailed c.args.more.chances.now
+    c.args.map.now c.args.layers.now l at.extended.items)
     (all_taken at.yielded _ _ at.invariant.left
     (sym at.invariant.count ∙ c.in-None.ensures.steps.0)
     ∙ c.into_iter-place-iterator.ensures.into_iter_gives.0) at.invariant.so_far
