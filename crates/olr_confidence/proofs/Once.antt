@@ -59,11 +59,37 @@ terms_once detail count one other is its =
       points_at_most = h.2;
       lines_at_most = h.3;
       length_at_most = h.4;
-    }) (one.distance, one.direction, one.leg, one.cost, one.turns_back, one.points, one.lines,
-    one.length) (other.distance, other.direction, other.leg, other.cost, other.turns_back,
-    other.points, other.lines, other.length) (one.distance_at_most, one.leg_at_most,
-    one.points_at_most, one.lines_at_most, one.length_at_most) (other.distance_at_most,
-    other.leg_at_most, other.points_at_most, other.lines_at_most, other.length_at_most)
+    }) (
+      one.distance,
+      one.direction,
+      one.leg,
+      one.cost,
+      one.turns_back,
+      one.points,
+      one.lines,
+      one.length,
+    ) (
+      other.distance,
+      other.direction,
+      other.leg,
+      other.cost,
+      other.turns_back,
+      other.points,
+      other.lines,
+      other.length,
+    ) (
+      one.distance_at_most,
+      one.leg_at_most,
+      one.points_at_most,
+      one.lines_at_most,
+      one.length_at_most,
+    ) (
+      other.distance_at_most,
+      other.leg_at_most,
+      other.points_at_most,
+      other.lines_at_most,
+      other.length_at_most,
+    )
     (λ k. (distance k, direction k, leg k, cost k, turns_back k, points k, lines k, length_is k))
 
 -- ---- probabilities

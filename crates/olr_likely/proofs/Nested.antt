@@ -49,8 +49,11 @@ module _ (on : MapShown) where
       (most - 1) (λ said. tt)) place.told in
       let reasons = some_nests (most - 1) (or_null (λ (said : ToldPlaceValue).
       array_of reason_object said.reasons)) (option_nests (λ (said : ToldPlaceValue).
-      array_of reason_object said.reasons) (most - 1) (λ said. (omega arith, items_nest reason_object
-      (most - 1 - 1) (reason_nests (most - 1 - 1) (omega arith)) said.reasons))) place.told in
+      array_of reason_object said.reasons) (most - 1) (λ said. (
+        omega arith,
+        items_nest reason_object
+            (most - 1 - 1) (reason_nests (most - 1 - 1) (omega arith)) said.reasons,
+      ))) place.told in
       let matching = opener_nests (most - 1) (omega arith) place.opener place.detail in (
         omega arith,
         maybe_nests (most - 1) _ _ _ cost (

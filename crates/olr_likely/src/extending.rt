@@ -52,7 +52,13 @@ fn said_of(
     ensures { IfOk result (IsSaid chances.now.confidence.weights known.now place.now detail.now) }
 {
     let weights = &chances.confidence.weights;
-    let reasons = reasons_of(alloc, weights, detail, place.opener.route.len(), known.least)?;
+    let reasons = reasons_of(
+        alloc,
+        weights,
+        detail,
+        place.opener.route.len(),
+        known.least,
+    )?;
     Ok(ToldPlace {
         probability: probability_at(&known.probabilities.places, place.likely),
         reasons,
