@@ -1,5 +1,5 @@
--- Why a place is no more probable than it is. A reason is what alone halves its share, or more: what
--- loses at least 2^24.
+-- Why a place is no more probable than it is. A reason is what alone halves its share, or doubles that
+-- of none, or more: what loses or gains at least 2^24.
 use Rattle.std.specs.Prelude.{◌≡◌, ℕ, ◌+◌, ◌-◌, ◌*◌, min, if◌then◌else◌, nat_le, nat_lt, nat_eq, List, [], ◌∷◌, filter, map, Bool, false, Option, None, Some}
 use Rattle.olr_detail.specs.Values.{MatchingDetailValue}
 use Rattle.olr_detail.specs.declared.candidate_detail.CandidateDetail.{CandidateDetail}
@@ -78,7 +78,7 @@ module _ (weights : Weights) (detail : MatchingDetailValue) (terms : Terms) wher
   of_behind least = weighed Behind None (terms.cost - least) (weights.behind * (terms.cost - least))
 
   -- any line of the route may be missing on the sender's map: this is how many it has. It counts for
-  -- none of these, by the likeliest place, and so is a reason of a place with the least cost alone.
+  -- none of these, by the likeliest place, and so is a reason of places with the least cost alone.
   abbrev pub of_lines : ℕ → ℕ → WeighedReason
   of_lines least count = weighed Lines None count
       (if nat_le terms.cost least then above_zero weights.none_lines * terms.lines else 0)

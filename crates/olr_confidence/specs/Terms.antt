@@ -12,8 +12,8 @@ abbrev pub greatest_by : {X : Type 0} → (X → ℕ) → List X → ℕ
 greatest_by f [] = 0
 greatest_by f (one ∷ rest) = max (f one) (greatest_by f rest)
 
--- how far the length of a leg lies outside of the distance interval, in thousandths of the end of the
--- interval: 1000 at most
+-- how far the length of a leg lies outside of the distance interval, in thousandths of the first length
+-- behind the interval: 1000 at most
 abbrev pub missed_by : LegDetail → ℕ
 missed_by leg = min 1000 (1000 * ((leg.length - leg.greatest) + (leg.least - leg.length))
     / (leg.greatest + 1))
@@ -22,7 +22,8 @@ missed_by leg = min 1000 (1000 * ((leg.length - leg.greatest) + (leg.least - leg
 abbrev pub length_of : List LegDetail → ℕ
 length_of legs = sum_by (λ (leg : LegDetail). leg.length) legs
 
--- a distance in centimetres, in thousandths of a length in decimetres: 1000 at most
+-- a distance in centimetres, in thousandths of a length in decimetres: 1000 at most, and 0 of the length
+-- 0
 abbrev pub share_of_length : ℕ → ℕ → ℕ
 share_of_length distance length = min 1000 (100 * distance / length)
 

@@ -5,7 +5,7 @@
 pub enum ReasonKind {
     /// The route turns back.
     TurningBack,
-    /// A leg is longer than the reference says, by thousandths of the end of its interval.
+    /// A leg is longer than the reference says, by thousandths of the first length behind its interval.
     Longer,
     /// A leg is shorter than the reference says, likewise.
     Shorter,

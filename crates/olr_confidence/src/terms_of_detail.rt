@@ -27,8 +27,8 @@ fn most_turned(points: &[CandidateDetail]) -> u8
     first.sectors.max(most_turned(others))
 }
 
-/// How far the length of a leg lies outside of the distance interval, in thousandths of the end
-/// of the interval.
+/// How far the length of a leg lies outside of the distance interval, in thousandths of the first
+/// length behind the interval.
 pub(crate) fn missed_by(leg: &LegDetail) -> u64
     ensures missed { result ≡ missed_by leg.now }
     ensures at_most { result ≤ 1000 }

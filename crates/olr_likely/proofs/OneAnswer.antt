@@ -393,11 +393,16 @@ module _ (below : LawsBelow) where
         → AreExtended detailed rechances road layers refound other → AreAlike one other
     all_extended_once found refound one other same is its = record {
       places = extended_once _ _ _ _ same.places is.places its.places;
-      looked = is.looked_is ∙ same.looked ∙ sym its.looked_is;
-      margin = is.margin_is ∙ same.margin ∙ sym its.margin_is;
-      next = is.next_is ∙ same.next ∙ sym its.next_is;
-      cut = is.cut_is ∙ same.cut ∙ sym its.cut_is;
-      verdict = is.verdict_is ∙ same.verdict ∙ sym its.verdict_is;
+      looked = ap (λ (shown : ShownPlaces). shown.looked) is.rest_is ∙ same.looked
+          ∙ sym (ap (λ (shown : ShownPlaces). shown.looked) its.rest_is);
+      margin = ap (λ (shown : ShownPlaces). shown.margin) is.rest_is ∙ same.margin
+          ∙ sym (ap (λ (shown : ShownPlaces). shown.margin) its.rest_is);
+      next = ap (λ (shown : ShownPlaces). shown.next) is.rest_is ∙ same.next
+          ∙ sym (ap (λ (shown : ShownPlaces). shown.next) its.rest_is);
+      cut = ap (λ (shown : ShownPlaces). shown.cut) is.rest_is ∙ same.cut
+          ∙ sym (ap (λ (shown : ShownPlaces). shown.cut) its.rest_is);
+      verdict = ap (λ (shown : ShownPlaces). shown.verdict) is.rest_is ∙ same.verdict
+          ∙ sym (ap (λ (shown : ShownPlaces). shown.verdict) its.rest_is);
       told = is.told_is ∙ told_once chances rechances alike ∙ sym its.told_is;
       differs = is.differs_are ∙ differs_once chances rechances alike ∙ sym its.differs_are;
     }

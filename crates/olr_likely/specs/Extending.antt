@@ -91,11 +91,11 @@ module _ (detailed : Bool) (chances : Option Chances) where
       pub places : AreExtendedPlaces shown.places.items extended.places.items
       pub told_is : extended.told ≡ option_map told_of chances
       pub differs_are : names_in extended.differs ≡ option_map differs_of chances
-      pub looked_is : extended.looked ≡ shown.looked
-      pub margin_is : extended.margin ≡ shown.margin
-      pub next_is : extended.next ≡ shown.next
-      pub cut_is : extended.cut ≡ shown.cut
-      pub verdict_is : extended.verdict ≡ shown.verdict
+      pub rest_is : extended ≡ record shown {
+        places = extended.places;
+        told = extended.told;
+        differs = extended.differs;
+      }
 
 -- the same places, with more where more is asked for
 abbrev pub IsExtended : Bool → Option Chances → RoadMap → LayersValue → ShownPlaces → ShownPlaces

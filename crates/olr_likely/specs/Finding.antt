@@ -23,8 +23,9 @@ pub record AreWidest (limits widest : PlaceLimits) : Type 0 where
   pub within : widest.within ≡ 14620
   pub most : widest.most ≡ 100
 
--- The matchings of a reference are looked at by the widest limits. What is answered is of all
--- places that they open, and so is what a confidence says, if one is given.
+-- The matchings of a reference are looked at by the widest limits, but no more of them than are asked
+-- for. What is answered is of all places that they open, and so is what a confidence says, if one is
+-- given: of places behind it knows nothing.
 pub record AreLikelyPlaces (asked : AskedPlaces) (road : RoadMap) (layers : LayersValue)
     (likely : LikelyPlaces) : Type 0 where
   pub widest : PlaceLimits

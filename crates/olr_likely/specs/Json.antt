@@ -34,8 +34,8 @@ cost_value place = option_map (λ likely. whole likely.cost) place.likely
 abbrev pub rank_value : ShownPlace → Option Data
 rank_value place = option_map (λ likely. whole likely.rank) place.likely
 
--- where a confidence is given, how probable a place is and why no more: null where it isn't for such
--- places
+-- where a confidence is given, how probable a place is, in millionths, and why no more: null where a
+-- number differs from its own, and of a point along a line
 abbrev pub probability_value : ShownPlace → Option Data
 probability_value place =
     option_map (or_null (λ (said : ToldPlaceValue). whole said.probability)) place.told
@@ -57,7 +57,9 @@ place_object on part place = object (
     maybe_member (codes "reasons") (reasons_value place) no_members))))))))
 
 -- where a confidence is given, the names of the numbers that differ from its own, how different the
--- sender's map is, and how probable it is that none of the places is right
+-- sender's map is, in thousandths, and how probable it is that none of the places is right, in
+-- millionths: the last two are null where nothing is known, the first of them also where the file has
+-- null
 abbrev pub differs_value : ShownPlaces → Option Data
 differs_value shown =
     option_map (λ (names : Vec AskedName). array_of name_value names.items) shown.differs

@@ -1,5 +1,5 @@
 -- The text of places as they are shown. Each row ends with a line feed; gaps are in penalty points,
--- costs in thirtieths of one.
+-- costs in thirtieths of one. What a confidence says isn't in it.
 use Rattle.std.specs.Prelude.{ℕ, List, [], ◌++◌, Option, None, Some, codes, decimal}
 use Rattle.olr_keys.specs.Cursor.{key_text}
 use Rattle.olr_road.specs.RoadMap.{RoadMap}

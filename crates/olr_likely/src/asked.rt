@@ -21,6 +21,6 @@ pub struct AskedPlaces {
     pub order: PlaceOrder,
     /// Whether it is shown what speaks for each.
     pub detailed: bool,
-    /// By what it is told how probable each is, in the likely order.
+    /// What says, in the likely order, how probable each is.
     pub confidence: Option<Confidence>,
 }

@@ -162,7 +162,7 @@ pub(crate) fn none_of(shown: &ShownPlaces) -> Option<Option<u64>>
     Some(told.none)
 }
 
-/// The members of the places that are shown, behind those that it hasn't always.
+/// The members of the places that are shown, from how many matchings were looked at on.
 #[derive(Clone, Copy)]
 struct ShownMembers<'a> {
     shown: &'a ShownPlaces,
@@ -223,8 +223,8 @@ impl ToJson<ShownMap<'_>> for ShownPlaces {
 /// `next` the cursor after which looking would go on, or null, the `places`, and the `verdict`. A
 /// place has its `gap`, its opener as `matching`, and its `members`. In the likely order a place has
 /// its `cost` and its `rank` too, and the whole has `cut`, whether a place may be missing. Where a
-/// confidence is given, a place has its `probability` and `reasons`, and the whole has `differs`,
-/// `map_differs` and `none_of_these`. A matching is as [`olr_report::json_page_shown`] has it, in detail as
+/// confidence is given, a place has its `probability`, in millionths, and `reasons`, and the whole has
+/// `differs`, `map_differs`, in thousandths, and `none_of_these`, in millionths; null where it isn't known. A matching is as [`olr_report::json_page_shown`] has it, in detail as
 /// [`olr_detail::json_page_in_detail`] has it, with its shape and its spots where these are asked
 /// for.
 ///

@@ -16,7 +16,8 @@
 //! - [`json`], [`text`]: their JSON and their text; [`geojson`]: as features of GeoJSON.
 //!
 //! Beside them, [`likely_laws`] says that the likeliest place is shown first, and what `cut` means;
-//! [`one_answer`], that what is asked has one text and one JSON.
+//! [`one_answer`], that what is asked has one text, one JSON and
+//! one GeoJSON.
 #![tactic(auto)]
 
 mod answer;

@@ -35,7 +35,8 @@ pub struct ShownPlace {
     pub likely: Option<RankAndCost>,
     /// What speaks for the matching that opened it, where that is asked for.
     pub detail: Option<MatchingDetail>,
-    /// What a confidence says of it, where one is given: nothing where it isn't for such places.
+    /// What a confidence says of it, where one is given: nothing where a number differs from its own,
+    /// and of a point along a line.
     pub told: Option<Option<ToldPlace>>,
 }
 

@@ -23,9 +23,9 @@ impl Model for ToldPlace {
 /// What is told of all places together.
 #[derive(Clone, Copy, Debug, PartialEq, Eq)]
 pub struct ToldPlaces {
-    /// How probable it is that none of those that were looked at is right, in millionths, if that is
-    /// known.
+    /// How probable it is that none of those that were looked at is right, in millionths: not known where
+    /// a number differs from those of the confidence, nor of a point along a line.
     pub none: Option<u64>,
-    /// How different the sender's map is, if that is known.
+    /// How different the sender's map is, where that is known and the confidence says it.
     pub map_differs: Option<MapRange>,
 }
