@@ -5,8 +5,8 @@ use crate::table::{Detail, Explanation};
 /// A file of a map.
 const FILE: &str = "FILE is `nodes`, `lines` or `bans`";
 
-/// A file of a map, or the records of a batch.
-const FILE_OR_INPUT: &str = "FILE is `nodes`, `lines`, `bans` or `input`";
+/// A file of a map, that of a confidence, or the records of a batch.
+const ANY_FILE: &str = "FILE is `nodes`, `lines`, `bans`, `confidence` or `input`";
 
 /// A record of the file of lines or of bans.
 const RECORD: &str = "N is the number of the record, counted from 1 behind the header";
@@ -131,7 +131,7 @@ pub(crate) static MAP: [Explanation; 11] = [
     Explanation {
         name: "ReadFailed",
         detail: Detail::Values("FILE"),
-        values: FILE_OR_INPUT,
+        values: ANY_FILE,
         meaning: "\
             reading broke off; of `input` the lines of all records that ended before are written",
         cause: "a folder in place of a file; a disk or network that failed",

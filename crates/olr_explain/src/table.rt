@@ -108,8 +108,8 @@ static COMMAND_LINE: [Explanation; 5] = [
         detail: Detail::Values("FILE"),
         values: "",
         meaning: "\
-            the file of nodes, lines or bans can't be opened, or that of the records of a batch, \
-            which is `input`",
+            the file of nodes, lines or bans can't be opened, or that of a confidence, which is \
+            `confidence`, or that of the records of a batch, which is `input`",
         cause: "\
             a wrong path, often relative to another folder; no right to read; a store behind \
             `--map`, which the program doesn't read: `OpenFailed nodes`",
@@ -121,7 +121,7 @@ static COMMAND_LINE: [Explanation; 5] = [
 ];
 
 /// Matchings and cursors.
-static MATCHINGS: [Explanation; 4] = [
+static MATCHINGS: [Explanation; 5] = [
     Explanation {
         name: "BadCursor",
         detail: Detail::Nothing,
@@ -151,6 +151,16 @@ static MATCHINGS: [Explanation; 4] = [
             a cursor without `@` and digits, from another map, reference or set of tolerances; a \
             cursor typed by hand",
         remedy: "begin again without `--after`",
+    },
+    Explanation {
+        name: "BadConfidence",
+        detail: Detail::Nothing,
+        values: "",
+        meaning: "the file behind `--confidence` isn't that of a confidence",
+        cause: "\
+            another file; one of an older version, whose weights have fractions; one that was \
+            changed by hand or cut short; one of more than 1 MiB",
+        remedy: "write it anew: `olr-tools calibrate`",
     },
     Explanation {
         name: "TooManyCandidates",

@@ -21,7 +21,7 @@ ROWS: dict[str, tuple[str, str]] = {
         "the ranges are `--apart` 0 to 1000000 dm, `--within` 0 to 14620 penalty points, `--look` 1 to 1000000 matchings, `--most` 1 to 100 places; of `why`, `--nearest` 0 to 64 lines; of `legs`, `--near` 0 to 100 thousandths; of `lines`, `--most` 1 to 200000 lines, and `--box W,S,E,N` has the west before the east and the south before the north",
     ),
     "OpenFailed FILE": (
-        "the file of nodes, lines or bans can't be opened, or that of the records of a batch, which is `input`",
+        "the file of nodes, lines or bans can't be opened, or that of a confidence, which is `confidence`, or that of the records of a batch, which is `input`",
         "`ls -l` the path; a store is asked by `olr-tools match MESSAGES --map STORE --out FILE`, and about any number of references by `olr-tools run MESSAGES --store STORE --out DIR`",
     ),
     "TooLong": (
@@ -123,6 +123,10 @@ ROWS: dict[str, tuple[str, str]] = {
     "CursorNotHere": (
         "no matching has this cursor",
         "begin again without `--after`",
+    ),
+    "BadConfidence": (
+        "the file behind `--confidence` isn't that of a confidence",
+        "write it anew: `olr-tools calibrate`",
     ),
     "TooManyCandidates I": (
         "more than 64 lines may carry point I",
