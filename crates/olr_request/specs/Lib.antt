@@ -1,3 +1,4 @@
+pub mod ConfidenceFile
 pub mod Fault
 pub mod Request
 pub mod Question

@@ -1,7 +1,9 @@
 -- The request that asks a question of the reference of a text.
-use Rattle.std.specs.Prelude.{ℕ, List, None}
+use Rattle.std.specs.Prelude.{ℕ, List, Option, None}
 use Rattle.std.specs.Borrow.{Bor}
 use Rattle.olr_candidates.specs.declared.tolerances.Tolerances.{Tolerances}
+use Rattle.olr_request.specs.declared.confidence_file.ConfidenceFile.{ConfidenceFile}
+use Rattle.olr_request.specs.declared.question.Question.{Question}
 use Rattle.olr_request.specs.declared.question.QuestionKind.{QuestionKind}
 use Rattle.olr_request.specs.declared.question.QuestionKind.TheVariants.{Candidates, Match, Places, Why}
 use Rattle.olr_request.specs.declared.request.Format.{Format}
@@ -23,12 +25,13 @@ request_for (Match size extras) tolerances text pages format = request.Match (re
   extras = extras;
   format = format;
 })
-request_for (Places limits order extras) tolerances text pages format = request.Places (record {
+request_for (Places limits order extras confidence) tolerances text pages format = request.Places (record {
   text = text;
   tolerances = tolerances;
   limits = limits;
   order = order;
   extras = extras;
+  confidence = confidence;
   format = format;
 })
 request_for (Why nearest shape) tolerances text pages format = request.Why (record {
@@ -43,3 +46,16 @@ request_for (Why nearest shape) tolerances text pages format = request.Why (reco
 -- page.
 abbrev pub asked_alone : QuestionKind → Tolerances → Bor (List ℕ) → Request
 asked_alone what tolerances text = request_for what tolerances text (One None) Json
+
+-- ---- a confidence
+
+-- the same, with the file of this confidence where places are asked for
+abbrev pub kind_with_confidence : Option ConfidenceFile → QuestionKind → QuestionKind
+kind_with_confidence confidence (Places limits order extras other) =
+    Places limits order extras confidence
+kind_with_confidence confidence other = other
+
+-- the same question
+abbrev pub question_with_confidence : Option ConfidenceFile → Question → Question
+question_with_confidence confidence question =
+    record question { what = kind_with_confidence confidence question.what }

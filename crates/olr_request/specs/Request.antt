@@ -2,10 +2,13 @@
 use Rattle.std.specs.Prelude.{ℕ, ⊤, false, List, Option, None, option_map}
 use Rattle.std.specs.Borrow.{Bor}
 use Rattle.olr_report.specs.declared.route_part.RoutePart.TheVariants.{Route}
+use Rattle.olr_request.specs.declared.confidence_file.ConfidenceFile.{ConfidenceFile}
 use Rattle.olr_request.specs.declared.request.LegsRequest.{LegsRequest}
 use Rattle.olr_request.specs.declared.request.MatchRequest.{MatchRequest}
 use Rattle.olr_request.specs.declared.request.Pages.{Pages}
 use Rattle.olr_request.specs.declared.request.Pages.TheVariants.{All, One}
+use Rattle.olr_request.specs.declared.request.Query.{Query}
+use Rattle.olr_request.specs.declared.request.Query.TheVariants.{Reference}
 use Rattle.olr_request.specs.declared.request.Request.{Request}
 use Rattle.olr_request.specs.declared.request.Request.TheVariants.{Candidates, Match, Places, Show, Why}
 
@@ -39,6 +42,19 @@ cursor_in (One cursor) = bytes_of cursor
 abbrev pub cursor_of : Request → Option (List ℕ)
 cursor_of (Match asked) = cursor_in asked.pages
 cursor_of other = None
+
+-- ---- a confidence
+
+-- the same request, with the file of this confidence where it asks for places
+abbrev pub with_confidence : Option ConfidenceFile → Request → Request
+with_confidence confidence (Places asked) = Places (record asked { confidence = confidence })
+with_confidence confidence other = other
+
+-- the same of all that may be asked
+abbrev pub query_with_confidence : Option ConfidenceFile → Query → Query
+query_with_confidence confidence (Reference request) =
+    Reference (with_confidence confidence request)
+query_with_confidence confidence other = other
 
 -- ---- the legs of one matching
 

@@ -71,6 +71,8 @@ pub enum Fault {
     NotAdjacent(u32),
     /// A file has more records than a map may have: 100,000 nodes, 200,000 lines, 200,000 bans.
     TooMany(File),
+    /// The file that is given for a confidence is none.
+    BadConfidence,
     /// The point of this number, from 1, is the first that has more than 64 candidates.
     TooManyCandidates(usize),
     /// The tolerance of this name is the first out of its range. `run` of `olr_app` never answers
@@ -99,6 +101,10 @@ pub enum Fault {
     OpenFailed(File),
     /// A file couldn't be read to its end.
     ReadFailed(File),
+    /// The file of a confidence couldn't be opened. `run` of `olr_app` opens none.
+    ConfidenceNotOpened,
+    /// The file of a confidence couldn't be read to its end. `run` of `olr_app` reads none.
+    ConfidenceNotRead,
     /// The file of records couldn't be opened. `run` of `olr_app` opens none.
     InputNotOpened,
     /// The records couldn't be read to their end. `run` of `olr_app` reads none.
@@ -278,6 +284,7 @@ impl fmt::Display for Fault {
             Fault::UnknownLine(record) => write!(f, "UnknownLine {record}"),
             Fault::NotAdjacent(record) => write!(f, "NotAdjacent {record}"),
             Fault::TooMany(file) => write!(f, "TooMany {}", name_of(*file)),
+            Fault::BadConfidence => write!(f, "BadConfidence"),
             Fault::TooManyCandidates(point) => write!(f, "TooManyCandidates {point}"),
             Fault::BadTolerance(name) => write!(f, "BadTolerance {}", name.text()),
             Fault::BadNumber(number) => write!(f, "BadNumber {}", name_of_number(*number)),
@@ -291,6 +298,8 @@ impl fmt::Display for Fault {
             Fault::CursorNotHere => write!(f, "CursorNotHere"),
             Fault::OpenFailed(file) => write!(f, "OpenFailed {}", name_of(*file)),
             Fault::ReadFailed(file) => write!(f, "ReadFailed {}", name_of(*file)),
+            Fault::ConfidenceNotOpened => write!(f, "OpenFailed confidence"),
+            Fault::ConfidenceNotRead => write!(f, "ReadFailed confidence"),
             Fault::InputNotOpened => write!(f, "OpenFailed input"),
             Fault::InputNotRead => write!(f, "ReadFailed input"),
             Fault::NoMemory => write!(f, "NoMemory"),

@@ -1,8 +1,9 @@
 //! What is asked of a reference on a map.
 
 ghost use Rattle.std.specs.Prelude.{◌≡◌};
-ghost use Rattle.olr_request.specs.Question.{request_for};
+ghost use Rattle.olr_request.specs.Question.{question_with_confidence, request_for};
 
+use crate::confidence_file::ConfidenceFile;
 use crate::request::{Extras, Format, MatchRequest, Pages, PlacesRequest, Request, WhyRequest};
 use olr_candidates::Tolerances;
 use olr_keys::PageSize;
@@ -33,6 +34,8 @@ pub enum QuestionKind {
         order: PlaceOrder,
         /// What is shown of each.
         extras: Extras,
+        /// By which file their probabilities are told, if by one.
+        confidence: Option<ConfidenceFile>,
     },
     /// Why it has no matching and what would help.
     Why {
@@ -53,6 +56,19 @@ pub struct Question {
 }
 
 impl Question {
+    /// Gives it the file of this confidence, where it asks for places.
+    pub fn set_confidence(&mut self, confidence: Option<ConfidenceFile>)
+        ensures { self.new ≡ question_with_confidence confidence self.old }
+    {
+        if let QuestionKind::Places {
+            confidence: file,
+            ..
+        } = &mut self.what
+        {
+            *file = confidence;
+        }
+    }
+
     /// The request that asks it of the reference of a text. `pages` are those of its matchings,
     /// where these are asked for.
     pub fn request<'a>(&self, text: &'a str, pages: Pages<'a>, format: Format) -> Request<'a>
@@ -79,12 +95,14 @@ impl Question {
                 limits,
                 order,
                 extras,
+                confidence,
             } => Request::Places(PlacesRequest {
                 text,
                 tolerances,
                 limits,
                 order,
                 extras,
+                confidence,
                 format,
             }),
             QuestionKind::Why { nearest, shape } => Request::Why(WhyRequest {

@@ -1,8 +1,9 @@
 //! What is asked for.
 
 ghost use Rattle.std.specs.Prelude.{◌≡◌};
-ghost use Rattle.olr_request.specs.Request.{bytes_of, cursor_of, matching_request, text_of};
+ghost use Rattle.olr_request.specs.Request.{bytes_of, cursor_of, matching_request, query_with_confidence, text_of, with_confidence};
 
+use crate::confidence_file::ConfidenceFile;
 use crate::near_share::NearShare;
 use olr_candidates::Tolerances;
 use olr_keys::PageSize;
@@ -75,6 +76,9 @@ pub struct PlacesRequest<'a> {
     pub order: PlaceOrder,
     /// What is shown of each place.
     pub extras: Extras,
+    /// By which file the probabilities of the places are told, if by one. Without the likely order,
+    /// and as text, none are.
+    pub confidence: Option<ConfidenceFile>,
     /// How the places are printed.
     pub format: Format,
 }
@@ -148,6 +152,15 @@ impl<'a> Request<'a> {
             Pages::All => None,
         }
     }
+
+    /// Gives it the file of this confidence, where it asks for places.
+    pub fn set_confidence(&mut self, confidence: Option<ConfidenceFile>)
+        ensures { self.new ≡ with_confidence confidence self.old }
+    {
+        if let Request::Places(asked) = self {
+            asked.confidence = confidence;
+        }
+    }
 }
 
 /// What a request for the legs of one matching asks for.
@@ -210,4 +223,15 @@ pub enum Query<'a> {
     Legs(LegsRequest<'a>),
     /// Print the lines of a map that meet a box.
     Lines(LinesRequest),
+}
+
+impl Query<'_> {
+    /// Gives it the file of this confidence, where it asks for places.
+    pub fn set_confidence(&mut self, confidence: Option<ConfidenceFile>)
+        ensures { self.new ≡ query_with_confidence confidence self.old }
+    {
+        if let Query::Reference(request) = self {
+            request.set_confidence(confidence);
+        }
+    }
 }
