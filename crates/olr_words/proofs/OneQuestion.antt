@@ -1,6 +1,6 @@
 -- What is asked with alike values is one, and so is why it is refused.
 use mathlib.Core.Path.{fun_ext}
-use Rattle.std.proofs.Common.{◌≡◌, ◌⊎◌, ◌∙◌, ap, sym, subst, refl, inl, inr, arith, ℕ, true, false, List, [], ◌∷◌, get_or}
+use Rattle.std.proofs.Common.{◌≡◌, ◌⊎◌, ◌∙◌, ap, sym, subst, refl, inl, inr, arith, ℕ, None, true, false, List, [], ◌∷◌, get_or}
 use Rattle.std.specs.Prelude.{unwrap_or}
 use Rattle.std.proofs.lemmas.Bool.{cases_eq, cases_lt}
 use Rattle.std.proofs.Props.{props}
@@ -124,7 +124,7 @@ one_what g h alike each.Places a b is other =
     limits_are g.numbers is.0 is.1 number
     ∙ (ap (λ numbers. number_of numbers number) alike.numbers
     ∙ sym (limits_are h.numbers other.0 other.1 number))) in
-    is.2 ∙ ((λ k. Places (limits k) (alike.order k) (alike.extras k)) ∙ sym other.2)
+    is.2 ∙ ((λ k. Places (limits k) (alike.order k) (alike.extras k) None) ∙ sym other.2)
 one_what g h alike each.Why a b is other = is.0
     ∙ ((λ k. Why (unwrap_or (alike.nearest k) 8) (alike.extras k).shape) ∙ sym other.0)
 

@@ -93,7 +93,7 @@ placeless_for : (what : QuestionKind) (tolerances : Tolerances) (text : Bor (Lis
     ≡ request_for what tolerances (at_bytes text.now) (placeless_pages pages) format
 placeless_for (Candidates extras) tolerances text pages format = refl
 placeless_for (Match size extras) tolerances text pages format = refl
-placeless_for (Places limits order extras) tolerances text pages format = refl
+placeless_for (Places limits order extras confidence) tolerances text pages format = refl
 placeless_for (Why nearest shape) tolerances text pages format = refl
 
 one_request_for : (g h : Given) → Alike g h → (kind : MapSubcommand) (a b : Request)

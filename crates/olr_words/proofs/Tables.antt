@@ -1,14 +1,16 @@
 -- A subcommand found by its name, and what it takes.
-use Rattle.std.proofs.Common.{◌≡◌, ◌∙◌, ap, subst, sym, refl, ℕ, ◌+◌, ◌<◌, Bool, true, false, cond, List, [], ◌∷◌, get_or, drop, length, Option, Some, map}
+use Rattle.std.proofs.Common.{◌≡◌, ◌∙◌, ap, subst, sym, refl, ℕ, ◌+◌, ◌<◌, Bool, true, false, cond, List, [], ◌∷◌, ◌++◌, get_or, drop, length, Option, None, Some, map}
+use Rattle.std.specs.Option.{option_or}
 use Rattle.std.specs.Prelude.{find, option_map, IfSome}
 use Rattle.std.specs.List.{Any, Contains}
 use Rattle.std.specs.Str.{bytes_eq}
 use Rattle.std.proofs.lemmas.List.{at_drop_more, get_or-map, get_or_default, length-map}
+use Rattle.std.proofs.lemmas.List.Folds.{find-append}
 use Rattle.std.proofs.lemmas.Slice.Eq.{bytes_eq-Decides}
 use Rattle.clap.specs.Walk.{texts}
 use Rattle.std.proofs.Common.{Bor}
 use Rattle.olr_words.specs.RecordCommand.{options_in, row_of}
-use Rattle.olr_words.specs.Options.{options_named}
+use Rattle.olr_words.specs.Options.{RecordOption, options_named}
 use Rattle.olr_words.specs.declared.command.Subcommand.{Subcommand}
 
 -- ---- the first of a list that passes a test, one after the other
@@ -63,6 +65,31 @@ pub name_found : (name : List ℕ) (subs : List Subcommand) (r : Option Subcomma
     → find (has_name name) subs ≡ r → IfSome r (λ s. s.name.now ≡ name)
 name_found name subs r is = subst (λ o. IfSome o (λ (s : Subcommand). s.name.now ≡ name)) is
     (same_name name subs)
+
+-- ---- in one of two tables
+
+module _ (name : List ℕ) (rows more : List (List ℕ × List RecordOption)) where
+  in_either : options_named (rows ++ more) name
+      ≡ option_or (options_named rows name) (options_named more name)
+  in_either = ap (option_map (λ row. row.1)) (find-append (λ row. bytes_eq row.0 name) rows more)
+      ∙ go (find (λ row. bytes_eq row.0 name) rows)
+    where
+      go : (found : Option (List ℕ × List RecordOption))
+          → option_map (λ row. row.1) (option_or found (find (λ row. bytes_eq row.0 name) more))
+          ≡ option_or (option_map (λ row. row.1) found) (options_named more name)
+      go None = refl
+      go (Some row) = refl
+
+  -- what has the first table has both
+  pub in_first : (options : List RecordOption) → Some options ≡ options_named rows name
+      → Some options ≡ options_named (rows ++ more) name
+  in_first options is = ap (λ o. option_or o (options_named more name)) is ∙ sym in_either
+
+  -- and so has what the first one doesn't have, and the second one has or hasn't
+  pub in_second : (found : Option (List RecordOption)) → None ≡ options_named rows name
+      → found ≡ options_named more name → found ≡ options_named (rows ++ more) name
+  in_second found none is = is ∙ ap (λ o. option_or o (options_named more name)) none
+      ∙ sym in_either
 
 -- ---- words
 

@@ -1,5 +1,6 @@
 pub mod Profile
 pub mod Words
+pub mod Asked
 pub mod Rejected
 pub mod BoxText
 pub mod Options

@@ -104,7 +104,7 @@ IsWhat given each.Candidates what = what ≡ Candidates given.extras
 IsWhat given each.Match what =
     (what ≡ Match (size_of given) given.extras) × IsSize (size_of given)
 IsWhat given each.Places what = (limits : PlaceLimits) × AreLimits given.numbers limits
-    × (what ≡ Places limits given.order given.extras)
+    × (what ≡ Places limits given.order given.extras None)
 IsWhat given each.Why what =
     (what ≡ Why (nearest_of given) given.extras.shape) × IsNearest (nearest_of given)
 

@@ -1,5 +1,8 @@
 //! From the words of a command line to what they ask for, and the files that it reads.
 
+ghost use Rattle.std.specs.Prelude.{◌≡◌};
+ghost use Rattle.olr_words.specs.Asked.{records_with_confidence};
+
 use crate::command::whole_command;
 use crate::hints::{check_values, not_understood, topic_in};
 use crate::rejected::Rejected;
@@ -7,7 +10,7 @@ use crate::words::{Given, MapSubcommand};
 use clap::error::ErrorKind;
 use clap::{ArgMatches, Command};
 use olr_explain::Topic;
-use olr_request::{Fault, LegsRequest, LinesRequest, Question, Request};
+use olr_request::{ConfidenceFile, Fault, LegsRequest, LinesRequest, Question, Request};
 use std::alloc::{AllocError, Global};
 
 /// Where the files of a map are.
@@ -27,17 +30,59 @@ pub enum Files<'a> {
     Folder(&'a str),
 }
 
+/// A request, and the files that it reads.
+#[derive(Clone, Copy, Debug, PartialEq, Eq)]
+pub struct AskedRequest<'a> {
+    /// The request. Its confidence isn't read yet.
+    pub request: Request<'a>,
+    /// The files of its map, if it reads one.
+    pub files: Option<Files<'a>>,
+    /// The path of the file of its confidence, if one is given.
+    pub confidence: Option<&'a str>,
+}
+
+/// A request for the legs of a matching, and the files of its map.
+#[derive(Clone, Copy, Debug, PartialEq, Eq)]
+pub struct AskedLegs<'a> {
+    /// The request.
+    pub request: LegsRequest<'a>,
+    /// The files.
+    pub files: Files<'a>,
+}
+
+/// A request for lines of a map, and its files.
+#[derive(Clone, Copy, Debug, PartialEq, Eq)]
+pub struct AskedLines<'a> {
+    /// The request.
+    pub request: LinesRequest,
+    /// The files.
+    pub files: Files<'a>,
+}
+
+/// Records, and the files that are read for them.
+#[derive(Clone, Copy, Debug, PartialEq, Eq)]
+pub struct AskedRecords<'a> {
+    /// What their texts are. Their confidence isn't read yet.
+    pub records: Records,
+    /// The files of their map.
+    pub files: Files<'a>,
+    /// The path of the file of their confidence, if one is given.
+    pub confidence: Option<&'a str>,
+    /// Where they come from.
+    pub input: Input<'a>,
+}
+
 /// What a command line asks for. Its texts are borrowed from the words.
 #[derive(Clone, Copy, Debug, PartialEq, Eq)]
 pub enum Asked<'a> {
-    /// The answer to one request, on the map of these files if it reads one.
-    One(Request<'a>, Option<Files<'a>>),
-    /// The legs of a matching on the map of these files.
-    Legs(LegsRequest<'a>, Files<'a>),
-    /// The lines of the map of these files that meet a box.
-    Lines(LinesRequest, Files<'a>),
-    /// The answers to many records, on the map of these files.
-    Many(Records, Files<'a>, Input<'a>),
+    /// The answer to one request.
+    One(AskedRequest<'a>),
+    /// The legs of a matching.
+    Legs(AskedLegs<'a>),
+    /// The lines of a map that meet a box.
+    Lines(AskedLines<'a>),
+    /// The answers to many records.
+    Many(AskedRecords<'a>),
     /// What these faults mean.
     Explain(Topic<'a>),
 }
@@ -47,8 +92,21 @@ pub enum Asked<'a> {
 pub enum Records {
     /// References, of each of which this is asked.
     References(Question),
-    /// Requests: the words of each say what is asked.
-    Requests,
+    /// Requests: the words of each say what is asked. Those for places have the file of this
+    /// confidence.
+    Requests(Option<ConfidenceFile>),
+}
+
+impl Records {
+    /// Gives them the file of this confidence, where they ask for places.
+    pub fn set_confidence(&mut self, confidence: Option<ConfidenceFile>)
+        ensures { self.new ≡ records_with_confidence confidence self.old }
+    {
+        match self {
+            Records::References(question) => question.set_confidence(confidence),
+            Records::Requests(file) => *file = confidence,
+        }
+    }
 }
 
 /// Where the records of a batch come from.
@@ -80,21 +138,33 @@ fn input_of<'a>(found: &ArgMatches<'a>) -> Input<'a> {
     }
 }
 
+/// The answers to records of an input that the words give, on the map that they give.
+fn many_in<'a>(found: &ArgMatches<'a>, records: Records) -> Option<Result<Asked<'a>, Fault>> {
+    Some(Ok(Asked::Many(AskedRecords {
+        records,
+        files: files_of(found)?,
+        confidence: found.get_str("confidence"),
+        input: input_of(found),
+    })))
+}
+
 /// What the subcommand of `batch` found among the words asks for, if there is one.
 fn batch_in<'a>(matches: &ArgMatches<'a>) -> Option<Result<Asked<'a>, Fault>> {
     let (name, found) = matches.subcommand()?;
     let subcommand = MapSubcommand::named(name)?;
-    let records = match Given::read(found, "").question(subcommand) {
-        Ok(question) => Records::References(question),
-        Err(fault) => return Some(Err(fault)),
-    };
-    Some(Ok(Asked::Many(records, files_of(found)?, input_of(found))))
+    match Given::read(found, "").question(subcommand) {
+        Ok(question) => many_in(found, Records::References(question)),
+        Err(fault) => Some(Err(fault)),
+    }
 }
 
 /// The lines that are asked for, of the map that the words give.
 fn lines_in<'a>(found: &ArgMatches<'a>) -> Option<Result<Asked<'a>, Fault>> {
     match Given::read(found, "").lines() {
-        Ok(asked) => Some(Ok(Asked::Lines(asked, files_of(found)?))),
+        Ok(request) => Some(Ok(Asked::Lines(AskedLines {
+            request,
+            files: files_of(found)?,
+        }))),
         Err(fault) => Some(Err(fault)),
     }
 }
@@ -102,7 +172,10 @@ fn lines_in<'a>(found: &ArgMatches<'a>) -> Option<Result<Asked<'a>, Fault>> {
 /// The legs that are asked for, on the map that the words give.
 fn legs_in<'a>(found: &ArgMatches<'a>) -> Option<Result<Asked<'a>, Fault>> {
     match Given::read(found, found.get_str("REF")?).legs() {
-        Ok(asked) => Some(Ok(Asked::Legs(asked, files_of(found)?))),
+        Ok(request) => Some(Ok(Asked::Legs(AskedLegs {
+            request,
+            files: files_of(found)?,
+        }))),
         Err(fault) => Some(Err(fault)),
     }
 }
@@ -114,16 +187,17 @@ fn asked_in<'a>(matches: &ArgMatches<'a>) -> Option<Result<Asked<'a>, Fault>> {
         "batch" => return batch_in(found),
         "legs" => return legs_in(found),
         "lines" => return lines_in(found),
-        "answer" => {
-            let files = files_of(found)?;
-            return Some(Ok(Asked::Many(Records::Requests, files, input_of(found))));
-        }
+        "answer" => return many_in(found, Records::Requests(None)),
         "explain" => return Some(Ok(Asked::Explain(topic_in(found)))),
         _ => {}
     }
     let given = Given::read(found, found.get_str("REF")?);
     match given.request(name) {
-        Some(Ok(request)) => Some(Ok(Asked::One(request, files_of(found)))),
+        Some(Ok(request)) => Some(Ok(Asked::One(AskedRequest {
+            request,
+            files: files_of(found),
+            confidence: found.get_str("confidence"),
+        }))),
         Some(Err(fault)) => Some(Err(fault)),
         None => None,
     }
@@ -141,7 +215,7 @@ fn nothing_asked(command: &mut Command<'_>) -> Result<Rejected, AllocError> {
 ///
 /// [`Rejected::Words`] where the words name no subcommand, give it something that it doesn't take,
 /// lack something that it requires, ask for help, give a number that isn't a whole one of 32 bits,
-/// ask for coordinates in text, give a box that isn't four signed numbers of 32 bits, or name a fault
+/// ask for coordinates or probabilities in text, give a box that isn't four signed numbers of 32 bits, or name a fault
 /// that there isn't; else [`Rejected::Fault`]: with
 /// [`Fault::AfterWithAll`] where both a cursor and all pages are asked for; else with
 /// [`Fault::BadTolerance`] and the first tolerance that is out of its range; else with

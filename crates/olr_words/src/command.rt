@@ -43,7 +43,7 @@ const ANSWER: Subcommand = Subcommand {
     options: &[FILES, REQUESTS],
 };
 
-/// The subcommands that answer one reference, and that for the lines of a map.
+/// The subcommands for what a reference says, and where it may lie.
 const SUBCOMMANDS: &[Subcommand] = &[
     Subcommand {
         name: "show",
@@ -77,6 +77,10 @@ const SUBCOMMANDS: &[Subcommand] = &[
             REFERENCE, FILES, LIMITS, ORDER, DETAIL, SHAPE, GEO_FORMAT, PART, TOLERANCES,
         ],
     },
+];
+
+/// The other subcommands that have one answer.
+const OTHER_SUBCOMMANDS: &[Subcommand] = &[
     Subcommand {
         name: "why",
         about: "Print why an OpenLR reference has no matching on a map, and what would help",
@@ -237,7 +241,8 @@ fn main_command<'a>(alloc: Global) -> Result<Command<'a>, Error> {
         .about("Read OpenLR location references, and find them on a road map")
         .version(VERSION)
         .after_help(AFTER_HELP);
-    with_subcommands(alloc, command, SUBCOMMANDS)
+    let command = with_subcommands(alloc, command, SUBCOMMANDS)?;
+    with_subcommands(alloc, command, OTHER_SUBCOMMANDS)
 }
 
 /// The command with its subcommands.
@@ -271,7 +276,10 @@ pub fn subcommand_named(name: &str) -> Option<Subcommand>
     ensures options { option_map options_in result ≡ options_of name.now }
     ensures name { IfSome result (λ subcommand. subcommand.name.now ≡ name.now) }
 {
-    named_in(SUBCOMMANDS, name)
+    match named_in(SUBCOMMANDS, name) {
+        Some(subcommand) => Some(subcommand),
+        None => named_in(OTHER_SUBCOMMANDS, name),
+    }
 }
 
 /// The subcommand of `batch` of this name, if there is one.

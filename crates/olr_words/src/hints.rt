@@ -18,6 +18,10 @@ const LEAST_LETTERS: usize = 8;
 const NO_SHAPE_AS_TEXT: &str =
     "the argument '--shape' cannot be used with '--format text'\n\n  tip: '--format json' prints it";
 
+/// Why probabilities aren't printed as text.
+const NO_CONFIDENCE_AS_TEXT: &str =
+    "the argument '--confidence' cannot be used with '--format text'\n\n  tip: '--format json' prints probabilities";
+
 /// Whether a byte may be a letter of base64, in either alphabet.
 fn is_of_base64(byte: u8) -> bool {
     byte.is_ascii_alphanumeric() || matches!(byte, b'+' | b'/' | b'-' | b'_' | b'=')
@@ -149,8 +153,20 @@ fn check_box(
     )?)
 }
 
-/// Refuses coordinates in an output that is text, which is the format where none is given.
-fn check_shape(
+/// Why an output that is text can't show what is asked for, if it can't.
+fn not_as_text(found: &ArgMatches<'_>) -> Option<&'static str> {
+    if flag_in(found, "shape") {
+        return Some(NO_SHAPE_AS_TEXT);
+    }
+    if found.get_str("confidence").is_some() {
+        return Some(NO_CONFIDENCE_AS_TEXT);
+    }
+    None
+}
+
+/// Refuses coordinates and probabilities in an output that is text, which is the format where none is
+/// given.
+fn check_text(
     alloc: Global,
     subcommand: Option<Subcommand>,
     found: &ArgMatches<'_>,
@@ -158,16 +174,13 @@ fn check_shape(
     let Some(subcommand) = subcommand else {
         return Ok(());
     };
-    if !flag_in(found, "shape") || !matches!(format_in(found), Format::Text) {
+    let Some(why) = not_as_text(found) else {
+        return Ok(());
+    };
+    if !matches!(format_in(found), Format::Text) {
         return Ok(());
     }
-    Err(rejection(
-        alloc,
-        "olr",
-        &subcommand,
-        ErrorKind::ArgumentConflict,
-        NO_SHAPE_AS_TEXT,
-    )?)
+    Err(rejection(alloc, "olr", &subcommand, ErrorKind::ArgumentConflict, why)?)
 }
 
 /// The faults that the words found for `explain` ask about.
@@ -201,8 +214,8 @@ fn check_topic(alloc: Global, found: &ArgMatches<'_>) -> Result<(), Rejected> {
 }
 
 /// Refuses what is found among the words where `clap` took a text that isn't what its place takes, a
-/// number, a box or the name of a fault; and coordinates in an output that is text. In a batch each answer
-/// is JSON, and lines have no text.
+/// number, a box or the name of a fault; and coordinates and probabilities in an output that is text. In a
+/// batch each answer is JSON, and lines have no text.
 ///
 /// # Errors
 ///
@@ -221,7 +234,7 @@ pub fn check_values(alloc: Global, matches: &ArgMatches<'_>) -> Result<(), Rejec
         if name == "lines" {
             return check_box(alloc, subcommand, found);
         }
-        return check_shape(alloc, subcommand, found);
+        return check_text(alloc, subcommand, found);
     }
     let Some((name, found)) = found.subcommand() else {
         return Ok(());

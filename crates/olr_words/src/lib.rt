@@ -37,7 +37,9 @@ mod rejected;
 mod route_part;
 mod words;
 
-pub use asked::{Asked, Files, Input, Records, asked_of};
+pub use asked::{
+    Asked, AskedLegs, AskedLines, AskedRecords, AskedRequest, Files, Input, Records, asked_of,
+};
 pub use last_question::LastQuestion;
 pub use record::{RecordFault, one_request_of_record, request_of_record, words_of_record};
 pub use record_words::RecordWords;

@@ -203,12 +203,22 @@ pub(crate) const LIMITS: &[CommandOption] = &[
     },
 ];
 
-/// In which order places are printed.
-pub(crate) const ORDER: &[CommandOption] = &[CommandOption {
-    name: "order",
-    takes: Takes::OneOf("ORDER", PLACE_ORDERS),
-    help: "In which order places are printed: by total, or by likely cost, which says which one is probably right [default: total]",
-}];
+/// By which file it is told how probable places are. Text has no probabilities.
+const CONFIDENCE: CommandOption = CommandOption {
+    name: "confidence",
+    takes: Takes::File,
+    help: "With '--order likely', print how probable places are, by this file of 'olr-tools calibrate': not as text",
+};
+
+/// In which order places are printed, and how probable they are.
+pub(crate) const ORDER: &[CommandOption] = &[
+    CommandOption {
+        name: "order",
+        takes: Takes::OneOf("ORDER", PLACE_ORDERS),
+        help: "In which order places are printed: by total, or by likely cost, which says which one is probably right [default: total]",
+    },
+    CONFIDENCE,
+];
 
 /// Whether each candidate, matching or place is printed in detail.
 pub(crate) const DETAIL: &[CommandOption] = &[CommandOption {
@@ -348,12 +358,15 @@ pub(crate) const RECORDS: &[CommandOption] = &[CommandOption {
     help: "The records, one a line: the text of a reference, or a key, a tab and the text [default: standard input]",
 }];
 
-/// The records that have words of their own.
-pub(crate) const REQUESTS: &[CommandOption] = &[CommandOption {
-    name: "input",
-    takes: Takes::File,
-    help: "The records, one a line: the words of a command, as 'places --within 100 -- REF', or a key, a tab and the words [default: standard input]",
-}];
+/// The records that have words of their own, and how probable places are that they ask for.
+pub(crate) const REQUESTS: &[CommandOption] = &[
+    CommandOption {
+        name: "input",
+        takes: Takes::File,
+        help: "The records, one a line: the words of a command, as 'places --within 100 -- REF', or a key, a tab and the words [default: standard input]",
+    },
+    CONFIDENCE,
+];
 
 /// The fault that is explained.
 pub(crate) const FAULT: &[CommandOption] = &[CommandOption {

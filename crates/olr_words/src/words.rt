@@ -268,6 +268,7 @@ impl<'a> Given<'a> {
                 limits: self.numbers.limits()?,
                 order: self.order,
                 extras,
+                confidence: None,
             }),
             MapSubcommand::Why => Ok(QuestionKind::Why {
                 nearest: self.nearest_count()?,
