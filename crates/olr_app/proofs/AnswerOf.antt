@@ -4,11 +4,14 @@ use Rattle.olr_base.specs.declared.failure.Failed.{Failed}
 use Rattle.olr_binary.specs.declared.refusal.Refused.{Refused}
 use Rattle.olr_binary.specs.declared.refusal.Refused.TheVariants as refused
 use Rattle.olr_records.specs.declared.file.File.{File}
-use Rattle.olr_app.proofs.Common.{Nodes, RoadMap, Accepts, IsAnswer, IsAnswerOf, IsAnswerOn, IsMapOfFiles, IsOutput, fault_of, fault_of_map, cursor_of, AndThen, IsStageFault, Accepted, Fault, BadCursor, TooManyCandidates, Format, Request, Candidates, Match, Places, Show, ◌≡◌, ◌⊎◌, ℕ, ◌+◌, true, List, Option, Ok, Err, refl, subst, inl, inr, Result, IfErr, IfOk, IsFault, IsReason, ReadsMap, CursorNotHere, CursorOfOther, NoMemory, WriteFailed}
+use Rattle.olr_app.proofs.Common.{Nodes, RoadMap, Accepts, IsAnswer, IsAnswerOf, IsAnswerOn, IsMapOfFiles, IsOutput, fault_of, fault_of_map, cursor_of, AndThen, IsStageFault, Accepted, Fault, BadConfidence, BadCursor, TooManyCandidates, Format, Request, Candidates, Match, Places, Show, ◌≡◌, ◌⊎◌, ℕ, ◌+◌, true, List, None, Option, Some, Ok, Err, refl, subst, inl, inr, Result, IfErr, IfOk, IsFault, IsReason, ReadsMap, CursorNotHere, CursorOfOther, NoMemory, WriteFailed}
 use Rattle.olr_map.specs.Files.{IsEffect, IsFaultLeft, IsMapLeft, IsReadWhole, Texts}
 use Rattle.olr_map.specs.declared.fault.MapFault.{MapFault}
 use Rattle.olr_map.specs.declared.fault.MapFault.TheVariants as map
+use Rattle.olr_app.specs.Places.{IsConfidenceOf}
 use Rattle.olr_app.specs.Sources.{AnswerLeaves, FaultLeaves, IsOfRequest}
+use Rattle.olr_request.specs.declared.confidence_file.ConfidenceFile.{ConfidenceFile}
+use Rattle.olr_request.specs.declared.confidence_file.ConfidenceFile.TheVariants.{Bad, Read}
 use Rattle.olr_app.proofs.Accepts.{start_fault}
 use Rattle.olr_app.proofs.Single.{err_of, ok_of}
 
@@ -35,26 +38,37 @@ module _ (request : Request) (accepted : Accepted) (road : RoadMap) where
   Ends why = IsAnswerOn true request accepted road (Err why)
 
   abbrev IsFaultAfterMap : Fault → Type 0
-  IsFaultAfterMap why = (why ≡ CursorOfOther)
+  IsFaultAfterMap why = (why ≡ CursorOfOther) ⊎ (why ≡ BadConfidence)
       ⊎ ((number : ℕ) × (why ≡ TooManyCandidates number)) ⊎ (why ≡ CursorNotHere)
+
+-- a file for a confidence has one fault
+bad_confidence : (file : Option ConfidenceFile) (why : Fault) → IsConfidenceOf file (Err why)
+    → why ≡ BadConfidence
+bad_confidence None why is = absurd cc
+bad_confidence (Some (Read confidence)) why is = absurd cc
+bad_confidence (Some Bad) why is = cc
 
 -- the faults with which the stages after the map end
 ends_with : (request : Request) (accepted : Accepted) (road : RoadMap) (why : Fault)
     → Ends request accepted road why → IsFaultAfterMap request accepted road why
-ends_with (Candidates text tolerances extras format) accepted road why is = inr (inl (is.0 + 1, is.2))
+ends_with (Candidates text tolerances extras format) accepted road why is =
+    inr (inr (inl (is.0 + 1, is.2)))
 ends_with (Match asked) accepted road why is = elim is [
   | inl other ↦ inl other.0
   | inr later ↦ elim later.2 [
-    | inl many ↦ inr (inl (many.0 + 1, many.2))
+    | inl many ↦ inr (inr (inl (many.0 + 1, many.2)))
     | inr after ↦ elim after.2 [
-      | inl not_here ↦ inr (inr not_here.0)
+      | inl not_here ↦ inr (inr (inr not_here.0))
       | inr never ↦ absurd never.2
     ]
   ]
 ]
 ends_with (Places asked) accepted road why is = elim is [
-  | inl many ↦ inr (inl (many.0 + 1, many.2))
-  | inr never ↦ absurd never.2
+  | inl bad ↦ inr (inl (bad_confidence asked.confidence why bad))
+  | inr later ↦ elim later.2 [
+    | inl many ↦ inr (inr (inl (many.0 + 1, many.2)))
+    | inr never ↦ absurd never.2
+  ]
 ]
 ends_with other accepted road why is = absurd is
 
@@ -67,17 +81,21 @@ module _ (request : Request) (accepted : Accepted) (road : RoadMap) where
   -- What holds of want of memory, and of the faults of these stages, holds of each fault.
   each_fault : (P : Fault → Type 0) → P NoMemory
       → (Ends request accepted road CursorOfOther → P CursorOfOther)
+      → (Ends request accepted road BadConfidence → P BadConfidence)
       → ((number : ℕ) → Ends request accepted road (TooManyCandidates number)
       → P (TooManyCandidates number))
       → (Ends request accepted road CursorNotHere → P CursorNotHere) → (why : Fault)
       → IsStageFault (IsAnswerOn true request accepted road) why → P why
-  each_fault P memory other many not_here why is = elim (memory_or_end why is) [
+  each_fault P memory other bad many not_here why is = elim (memory_or_end why is) [
     | inl same ↦ rw same memory
     | inr ends ↦ elim (ends_with request accepted road why ends) [
       | inl same ↦ rw same (other (subst (Ends request accepted road) same ends))
-      | inr more ↦ elim more [
-        | inl same ↦ rw same.1 (many same.0 (subst (Ends request accepted road) same.1 ends))
-        | inr same ↦ rw same (not_here (subst (Ends request accepted road) same ends))
+      | inr later ↦ elim later [
+        | inl same ↦ rw same (bad (subst (Ends request accepted road) same ends))
+        | inr more ↦ elim more [
+          | inl same ↦ rw same.1 (many same.0 (subst (Ends request accepted road) same.1 ends))
+          | inr same ↦ rw same (not_here (subst (Ends request accepted road) same ends))
+        ]
       ]
     ]
   ]
@@ -130,7 +148,8 @@ module _ (texts : Texts) (request : Request) (reads : ReadsMap request) (accepte
       → IsAnswer texts request (Err fault) =
       λ fault at. inr (accepted, is, answer_of_files _ _ _ _ reads (inr (road, map, at))) in
       each_fault request accepted road (IsReason texts request) (accepted, is)
-      (ends CursorOfOther) (λ number. ends (TooManyCandidates number)) (ends CursorNotHere) why its
+      (ends CursorOfOther) (ends BadConfidence) (λ number. ends (TooManyCandidates number))
+      (ends CursorNotHere) why its
 
 -- ---- sources
 
@@ -150,7 +169,7 @@ module _ {S : Type 0} (left : S → Option (List ℕ)) (failed : S → ℕ) (old
     late_leaves request accepted road why whole =
         each_fault request accepted road (FaultLeaves left failed old new file)
         (inr (inl (map.NoMemory, refl, unfailed file whole))) (λ ends. inr (inr (tt, whole)))
-        (λ number ends. inr (inr (tt, whole))) (λ ends. inr (inr (tt, whole))) why
+        (λ ends. inr (inr (tt, whole))) (λ number ends. inr (inr (tt, whole))) (λ ends. inr (inr (tt, whole))) why
 
     -- a fault of the map
     pub map_fault_leaves : (T : Type 0) (request : Request) (why : MapFault)

@@ -37,7 +37,7 @@ pub use Rattle.olr_records.specs.declared.file.File.TheVariants.{Bans, Lines, No
 pub use Rattle.olr_report.specs.Entries.{AreEntriesAt, AreEntriesOf, CanBeShown, Entry, IsEntryAt, IsEntryOf, keys_of}
 pub use Rattle.olr_request.specs.Fault.{fault_of, fault_of_map}
 pub use Rattle.olr_request.specs.Request.{ReadsMap, at_bytes, cursor_of, text_of}
-pub use Rattle.olr_request.specs.declared.fault.Fault.TheVariants.{BadCursor, CursorNotHere, CursorOfOther, NoMemory, TooManyCandidates, WriteFailed}
+pub use Rattle.olr_request.specs.declared.fault.Fault.TheVariants.{BadConfidence, BadCursor, CursorNotHere, CursorOfOther, NoMemory, TooManyCandidates, WriteFailed}
 pub use Rattle.olr_request.specs.declared.fault.Fault.{Fault}
 pub use Rattle.olr_request.specs.declared.request.Format.{Format}
 pub use Rattle.olr_request.specs.declared.request.MatchRequest.{MatchRequest}

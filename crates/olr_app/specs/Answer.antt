@@ -18,7 +18,7 @@ use Rattle.olr_app.specs.Writing.{HasStopped, IsWritten}
 use Rattle.olr_app.specs.declared.accepting.Accepted.{Accepted}
 use Rattle.olr_request.specs.declared.fault.Fault.{Fault}
 use Rattle.olr_request.specs.declared.fault.Fault.TheVariants.{AfterWithAll, BadBox, BadNear, BadNearest, BadNumber, BadPage, BadTolerance}
-use Rattle.olr_request.specs.declared.fault.Fault.TheVariants.{InputNotOpened, InputNotRead}
+use Rattle.olr_request.specs.declared.fault.Fault.TheVariants.{ConfidenceNotOpened, ConfidenceNotRead, InputNotOpened, InputNotRead}
 use Rattle.olr_request.specs.declared.fault.Fault.TheVariants.{NoMemory, OpenFailed, ReadFailed}
 use Rattle.olr_request.specs.declared.fault.Fault.TheVariants.{WriteFailed}
 use Rattle.olr_request.specs.declared.request.Format.{Format}
@@ -102,6 +102,8 @@ module _ (texts : Texts) where
   IsReason request (ReadFailed file) =
       ReadsMap request × IsAccepted request × IsFaultLeft texts (map.ReadFailed file)
   IsReason request (OpenFailed file) = ⊥
+  IsReason request ConfidenceNotOpened = ⊥
+  IsReason request ConfidenceNotRead = ⊥
   IsReason request InputNotOpened = ⊥
   IsReason request InputNotRead = ⊥
   IsReason request (BadTolerance name) = ⊥

@@ -4,13 +4,14 @@ use Rattle.olr_app.specs.Common.{Refused, File, MapFault}
 use Rattle.olr_map.specs.Files.{IsEffect, IsReadWhole}
 use Rattle.olr_request.specs.Fault.{fault_of, fault_of_map}
 use Rattle.olr_request.specs.declared.fault.Fault.{Fault}
-use Rattle.olr_request.specs.declared.fault.Fault.TheVariants.{BadCursor, CursorNotHere, CursorOfOther}
+use Rattle.olr_request.specs.declared.fault.Fault.TheVariants.{BadConfidence, BadCursor, CursorNotHere, CursorOfOther}
 use Rattle.olr_request.specs.declared.fault.Fault.TheVariants.{InputNotRead, TooManyCandidates, WriteFailed}
 use Rattle.olr_request.specs.declared.request.Request.{Request}
 use Rattle.olr_request.specs.declared.request.Request.TheVariants.{Show}
 
 -- a fault that there is only once the map is read
 abbrev pub IsAfterMap : Fault → Type 0
+IsAfterMap BadConfidence = ⊤
 IsAfterMap (TooManyCandidates number) = ⊤
 IsAfterMap CursorOfOther = ⊤
 IsAfterMap CursorNotHere = ⊤

@@ -85,8 +85,9 @@ fn output_of<S1: Source, S2: Source, S3: Source>(
 /// of one, whatever memory and devices do, and no source is read then; else the fault of the map,
 /// as [`read_map_with_bans`] answers it, or [`Fault::ReadFailed`] where the source of that file
 /// failed in a call; else, for a request that asks for matchings, [`Fault::CursorOfOther`] where
-/// the cursor has the mark of other inputs; else, but for [`Request::Why`],
-/// [`Fault::TooManyCandidates`] with the first point that has more than 64; else
+/// the cursor has the mark of other inputs, and for one that asks for places,
+/// [`Fault::BadConfidence`] where the file for a confidence is none; else, but for
+/// [`Request::Why`], [`Fault::TooManyCandidates`] with the first point that has more than 64; else
 /// [`Fault::CursorNotHere`] where the cursor isn't that of a matching; else [`Fault::WriteFailed`]
 /// where the sink failed in a call or took no byte of a rest. [`Fault::NoMemory`] may come in place
 /// of a fault of the map, of what follows it, or of the output, where the allocator refused memory.

@@ -44,8 +44,8 @@ pub use olr_matching::PageSize;
 pub use olr_places::{PlaceLimit, PlaceLimits};
 pub use olr_report::RoutePart;
 pub use olr_request::{
-    Extras, Fault, Format, LegsRequest, LinesRequest, MatchRequest, Pages, PlacesRequest, Query,
-    Question, QuestionKind, Request, WhyRequest,
+    ConfidenceFile, Extras, Fault, Format, LegsRequest, LinesRequest, MatchRequest, Pages,
+    PlacesRequest, Query, Question, QuestionKind, Request, WhyRequest,
 };
 pub use olr_why::NearestCount;
 pub use on_map::MapForRequests;

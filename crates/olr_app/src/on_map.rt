@@ -102,9 +102,10 @@ impl<'a> MapForRequests<'a> {
     /// # Errors
     ///
     /// For a request that asks for matchings, [`Fault::CursorOfOther`] where the cursor has the mark
-    /// of other inputs; else, but for [`Request::Why`], [`Fault::TooManyCandidates`] with the first
-    /// point that has more than 64; else [`Fault::CursorNotHere`] where the cursor isn't that of a
-    /// matching; [`Fault::NoMemory`] where the allocator refused memory.
+    /// of other inputs; for one that asks for places, [`Fault::BadConfidence`] where the file for a
+    /// confidence is none; else, but for [`Request::Why`], [`Fault::TooManyCandidates`] with the
+    /// first point that has more than 64; else [`Fault::CursorNotHere`] where the cursor isn't that
+    /// of a matching; [`Fault::NoMemory`] where the allocator refused memory.
     pub(crate) fn output(
         &self,
         alloc: Global,
@@ -155,7 +156,8 @@ impl<'a> MapForRequests<'a> {
     ///
     /// The refusal of the reference, or else [`Fault::BadCursor`] where the text of a cursor isn't
     /// that of one, whatever memory does; else, for a request that asks for matchings,
-    /// [`Fault::CursorOfOther`] where the cursor has the mark of other inputs; else, but for
+    /// [`Fault::CursorOfOther`] where the cursor has the mark of other inputs; for one that asks for
+    /// places, [`Fault::BadConfidence`] where the file for a confidence is none; else, but for
     /// [`Request::Why`], [`Fault::TooManyCandidates`] with the first point that has more than 64;
     /// else [`Fault::CursorNotHere`] where the cursor isn't that of a matching;
     /// [`Fault::NoMemory`] where the allocator refused memory.

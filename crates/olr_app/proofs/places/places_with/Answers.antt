@@ -1,6 +1,6 @@
 use Rattle.olr_app.proofs.Common.{string_bytes, subst, sym}
 use Rattle.olr_app.specs.Places.{IsPlacesIn}
-use Rattle.olr_app.proofs.places.places_listing.Goals as goal
+use Rattle.olr_app.proofs.places.places_with.Goals as goal
 
 pub returns-clause-places : goal.returns-clause-places
 returns-clause-places c =
