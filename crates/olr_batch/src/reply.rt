@@ -1,14 +1,22 @@
 //! What is answered to the text of a record.
 
-ghost use Rattle.std.specs.Prelude.{◌≡◌, IfErr, IfOk, IsOk, string_bytes};
+ghost use Rattle.std.specs.Prelude.{◌≡◌, Err, IfErr, IfOk, IfSome, IsOk, Ok, string_bytes};
 ghost use Rattle.olr_request.specs.Question.{asked_alone};
-ghost use Rattle.olr_batch.specs.Answers.{IsAnswerTo, IsFaultFor, IsFaultTo, IsReply};
+ghost use Rattle.olr_batch.specs.Answers.{IsAnswerTo, IsAsked, IsFaultFor, IsFaultTo, IsReply};
+ghost use Rattle.olr_request.specs.Request.{query_with_confidence};
 ghost use Rattle.olr_request.specs.declared.fault.Fault.{Fault};
+ghost use Rattle.olr_request.specs.declared.request.Query.{Query as QueryOf};
+ghost use Rattle.olr_request.specs.declared.request.Query.TheVariants.{Reference};
+ghost use Rattle.olr_words.specs.Record.{IsQueryOfWords, parts_of};
 ghost use Rattle.olr_words.specs.declared.record.RecordFault.TheVariants as record_fault;
 ghost use Rattle.olr_words.specs.declared.asked.Records.TheVariants.{References, Requests};
 
-use olr_app::{Format, MapForRequests, Pages, Query, Question, Request, legs_on_map, lines_of};
-use olr_words::{LastQuestion, RecordFault, Records, request_of_record, words_of_record};
+use olr_app::{
+    ConfidenceFile, Format, MapForRequests, Pages, Query, Question, Request, legs_on_map, lines_of,
+};
+use olr_words::{
+    LastQuestion, RecordFault, RecordWords, Records, request_of_record, words_of_record,
+};
 use std::alloc::Global;
 
 /// What the texts of records are, on the map that they are answered on.
@@ -86,8 +94,45 @@ fn reply_to_query(
     }
 }
 
-/// The answer to the request of a text. Words that are those of the last question aren't understood
-/// again.
+/// What a text asks for whose words are those of the last question, by this confidence.
+fn asked_again<'a>(
+    last: &LastQuestion,
+    confidence: Option<ConfidenceFile>,
+    text: &'a str,
+) -> Option<Request<'a>>
+    ensures { IfSome result
+        (λ request. IsAsked (Requests confidence) text.now (Ok (Reference request))) }
+{
+    let Some(mut request) = last.asked_again(text) else {
+        return None;
+    };
+    request.set_confidence(confidence);
+    Some(request)
+}
+
+/// What the words of a record ask for, by this confidence.
+///
+/// # Errors
+///
+/// That of [`request_of_record`].
+fn asked_by<'a, 'b: 'a>(
+    alloc: Global,
+    last: &mut LastQuestion,
+    confidence: Option<ConfidenceFile>,
+    words: &'a RecordWords<'b>,
+) -> Result<Query<'a>, RecordFault>
+    ensures asked { IfOk result (λ query. (own : QueryOf)
+        × IsQueryOfWords (parts_of words.entry.now) (Ok own)
+        × (query ≡ query_with_confidence confidence own)) }
+    ensures fault { IfErr result (λ why. IsQueryOfWords (parts_of words.entry.now) (Err why)) }
+{
+    let mut query = request_of_record(alloc, last, words)?;
+    query.set_confidence(confidence);
+    Ok(query)
+}
+
+/// The answer to the request of a text, by this confidence where it asks for places. Words that are
+/// those of the last question aren't understood again.
 ///
 /// # Errors
 ///
@@ -96,19 +141,20 @@ fn reply_to_request(
     alloc: Global,
     on: &mut MapForRequests<'_>,
     last: &mut LastQuestion,
+    confidence: Option<ConfidenceFile>,
     text: &str,
 ) -> Result<String, RecordFault>
     ensures map { on.new.map ≡ on.old.map }
     ensures answer { IfOk result (λ answer.
-        IsReply Requests on.old.map.now text.now (string_bytes answer)) }
-    ensures fault { IfErr result (IsFaultFor Requests on.old.map.now text.now) }
+        IsReply (Requests confidence) on.old.map.now text.now (string_bytes answer)) }
+    ensures fault { IfErr result (IsFaultFor (Requests confidence) on.old.map.now text.now) }
 {
-    if let Some(request) = last.asked_again(text) {
+    if let Some(request) = asked_again(last, confidence, text) {
         let answer = on.answer(alloc, &request)?;
         return Ok(answer);
     }
     let words = words_of_record(alloc, text)?;
-    let query = request_of_record(alloc, last, &words)?;
+    let query = asked_by(alloc, last, confidence, &words)?;
     reply_to_query(alloc, on, &query)
 }
 
@@ -132,7 +178,9 @@ impl RecordsOnMap<'_> {
             Records::References(question) => {
                 reply_to_reference(alloc, &mut self.map, question, text)
             }
-            Records::Requests => reply_to_request(alloc, &mut self.map, &mut self.last, text),
+            Records::Requests(confidence) => {
+                reply_to_request(alloc, &mut self.map, &mut self.last, *confidence, text)
+            }
         }
     }
 }
