@@ -11,7 +11,7 @@ reads_map : (what : QuestionKind) (tolerances : Tolerances) (text : Bor (List �
     → ReadsMap (asked_alone what tolerances text)
 reads_map (Candidates extras) tolerances text = tt
 reads_map (Match size extras) tolerances text = tt
-reads_map (Places limits order extras) tolerances text = tt
+reads_map (Places limits order extras confidence) tolerances text = tt
 reads_map (Why nearest shape) tolerances text = tt
 
 same_answer : (what : QuestionKind) (tolerances : Tolerances) (text : Bor (List ℕ)) (road : RoadMap)
@@ -19,7 +19,7 @@ same_answer : (what : QuestionKind) (tolerances : Tolerances) (text : Bor (List 
     → IsSameAnswer what road output answer
 same_answer (Candidates extras) tolerances text road output answer is = is
 same_answer (Match size extras) tolerances text road output answer is = is None refl
-same_answer (Places limits order extras) tolerances text road output answer is = is
+same_answer (Places limits order extras confidence) tolerances text road output answer is = is
 same_answer (Why nearest shape) tolerances text road output answer is = is
 
 module _ (laws : LawsBelow) where

@@ -11,6 +11,7 @@ mod Marks
 mod AsRuns
 mod LinesOnce
 mod OneReply
+mod OneAsked
 mod OfRequests
 mod OneRequest
 mod OneLine

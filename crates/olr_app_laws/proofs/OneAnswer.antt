@@ -25,9 +25,11 @@ use Rattle.olr_why.specs.Reasons.{WhyValue}
 use Rattle.olr_app.specs.Answer.{IsReferenceIn}
 use Rattle.olr_app.specs.Listing.{IsListed, IsListingAsAsked, IsListingIn, IsListingTextWith}
 use Rattle.olr_app.specs.Matching.{IsMarkOf}
-use Rattle.olr_app.specs.Places.{ArePlaces, ArePlacesOn, IsPlacesIn}
+use Rattle.olr_app.specs.Places.{ArePlaces, ArePlacesOn, ArePlacesWith, IsConfidenceOf, IsPlacesIn, asked_places}
 use Rattle.olr_app.specs.Stages.{OrTooMany}
 use Rattle.olr_app.specs.Why.{AreReasons, IsWhyIn}
+use Rattle.olr_request.specs.declared.confidence_file.ConfidenceFile.{ConfidenceFile}
+use Rattle.olr_request.specs.declared.confidence_file.ConfidenceFile.TheVariants.{Bad, Read}
 use Rattle.olr_request.specs.declared.request.Pages.TheVariants.{All as EveryPage}
 use Rattle.olr_request.specs.declared.request.PlacesRequest.{PlacesRequest}
 
@@ -365,30 +367,36 @@ module _ (laws : Laws) where
 
   -- ---- places and reasons
 
+  confidence_once : (file : Option ConfidenceFile) → IsSingle (IsConfidenceOf file)
+  confidence_once None one other is again = is ∙ sym again
+  confidence_once (Some (Read confidence)) one other is again = is ∙ sym again
+  confidence_once (Some Bad) one other is again = is ∙ sym again
+
   places_once : (asked : PlacesRequest) (reference : Reference) (road : RoadMap)
       → IsSoundMap road → IsSingle (ArePlaces asked reference road)
   places_once asked reference road sound =
-      first_then _ (ArePlacesOn asked road) (layers_once asked.tolerances reference road)
+      first_then _ (ArePlacesWith asked reference road) (confidence_once asked.confidence)
+      (λ confidence its. first_then _ (ArePlacesOn asked confidence road)
+      (layers_once asked.tolerances reference road)
       (λ layers are. no_fault_once _ (λ one other is again.
+      let places = asked_places asked confidence in
       let extras = asked.extras in
       let reference = layers.reference in
       let on = shown_for extras road reference in
       let same = sym (same_road extras.shape road reference) in
-      let on_it : (shown : ShownPlaces) → AreAsked asked.limits road layers asked.order
-      extras.detail shown → AreAsked asked.limits on.road layers asked.order extras.detail shown =
-      λ shown asks. subst (λ r. AreAsked asked.limits r layers asked.order extras.detail shown) same
-      asks in
+      let on_it : (shown : ShownPlaces) → AreAsked places road layers shown
+      → AreAsked places on.road layers shown =
+      λ shown asks. subst (λ r. AreAsked places r layers shown) same asks in
       let sound_on : IsSoundMap on.road = subst (λ r. IsSoundMap r) same sound in
-      let rows = laws.places_text laws.looking asked.limits road layers asked.order extras.detail
-      is.shown again.shown sound is.are_asked again.are_asked in
-      let values = laws.places_json laws.looking asked.limits on layers asked.order extras.detail
+      let rows = laws.places_text laws.looking places road layers is.shown again.shown sound
+      is.are_asked again.are_asked in
+      let values = laws.places_json laws.looking places on layers is.shown again.shown sound_on
+      (on_it is.shown is.are_asked) (on_it again.shown again.are_asked) in
+      let features = laws.places_geojson laws.looking places on layers reference extras.part
       is.shown again.shown sound_on (on_it is.shown is.are_asked)
       (on_it again.shown again.are_asked) in
-      let features = laws.places_geojson laws.looking asked.limits on layers reference extras.part
-      asked.order extras.detail is.shown again.shown sound_on (on_it is.shown is.are_asked)
-      (on_it again.shown again.are_asked) in
       places_in asked.format extras road reference is.shown again.shown one other rows values
-      features is.output_is again.output_is))
+      features is.output_is again.output_is)))
 
   reasons_once : (format : Format) (spots : Bool) (tolerances : Tolerances) (nearest : ℕ)
       (reference : Reference) (road : RoadMap)

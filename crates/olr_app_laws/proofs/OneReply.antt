@@ -11,6 +11,7 @@ use Rattle.olr_request.specs.declared.request.LinesRequest.{LinesRequest}
 use Rattle.olr_request.specs.declared.request.Query.{Query}
 use Rattle.olr_request.specs.declared.request.Query.TheVariants.{Legs, Lines, Reference}
 use Rattle.olr_app_laws.proofs.LinesOnce.{one_output}
+use Rattle.olr_app_laws.proofs.OneAsked.{one_asked}
 use Rattle.olr_app_laws.specs.RecordLaws.{AsksForNoLegs, LawsBelow, OneReply, Replies, shown}
 use Rattle.olr_words.specs.OneRequest.{AreEqual, StateTheSame, placeless, placeless_pages, stated}
 use Rattle.olr_words.specs.declared.record.RecordFault.{RecordFault}
@@ -223,7 +224,8 @@ module _ (road : RoadMap) where
     asked_once : (records : Records) (text : List ℕ) (a b : Result Query RecordFault)
         → IsAsked records text a → IsAsked records text b → StateTheSame a b
     asked_once (References question) text a b is its = rw (is, its) refl
-    asked_once Requests text a b is its = laws.request text a b is its
+    asked_once (Requests confidence) text a b is its =
+        one_asked laws.request confidence text a b is its
 
     module _ (sound : IsSoundMap road) where
       of_request : (one other : Request) → placeless one ≡ placeless other

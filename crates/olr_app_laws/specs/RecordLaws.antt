@@ -10,6 +10,7 @@ use Rattle.olr_app_laws.specs.AnswerLaws.{FaultIsOfRun, IsSameOutput, OneAnswerO
 use Rattle.olr_request.specs.Question.{asked_alone}
 use Rattle.olr_request.specs.Request.{at_bytes}
 use Rattle.olr_app.specs.Stages.{IsSingle}
+use Rattle.olr_request.specs.declared.confidence_file.ConfidenceFile.{ConfidenceFile}
 use Rattle.olr_request.specs.declared.fault.Fault.{Fault}
 use Rattle.olr_request.specs.declared.fault.Fault.TheVariants as fault
 use Rattle.olr_batch.specs.Answers.{IsAsked, IsFaultFor, IsReply}
@@ -97,51 +98,58 @@ OneReply = (records : Records) (road : RoadMap) (text : List ℕ)
 
 -- ---- requests, beside `batch` and runs
 
--- the text of a request asks a question of a reference, as `batch` does
-pub record AsksAlone (question : Question) (reference text : List ℕ) : Type 0 where
+-- the text of a request asks a question of a reference, as `batch` does, both with the file of this
+-- confidence
+pub record AsksAlone (confidence : Option ConfidenceFile) (question : Question)
+    (reference text : List ℕ) : Type 0 where
   pub request : Request
-  pub asked : IsQueryOf text (Ok (Reference request))
+  pub asked : IsAsked (Requests confidence) text (Ok (Reference request))
   pub alone : placeless request
       ≡ asked_alone question.what question.tolerances (at_bytes reference)
 
 -- Such a text is answered as the reference is as a record of `batch`.
 abbrev pub BatchIsAnswer : Type 0
-BatchIsAnswer = (question : Question) (road : RoadMap) (reference text output : List ℕ)
-    → AsksAlone question reference text
-    → IsReply (References question) road reference output ↔ IsReply Requests road text output
+BatchIsAnswer = (confidence : Option ConfidenceFile) (question : Question) (road : RoadMap)
+    (reference text output : List ℕ) → AsksAlone confidence question reference text
+    → IsReply (References question) road reference output
+    ↔ IsReply (Requests confidence) road text output
 
 -- It has the same faults. Of `NoMemory` nothing is stated: memory for its words may be refused.
 abbrev pub BatchFaultIsAnswers : Type 0
-BatchFaultIsAnswers = (question : Question) (road : RoadMap) (reference text : List ℕ)
-    (why : Fault) → AsksAlone question reference text → why ≢ fault.NoMemory
+BatchFaultIsAnswers = (confidence : Option ConfidenceFile) (question : Question) (road : RoadMap)
+    (reference text : List ℕ) (why : Fault) → AsksAlone confidence question reference text
+    → why ≢ fault.NoMemory
     → IsFaultFor (References question) road reference (record_fault.Fault why)
-    ↔ IsFaultFor Requests road text (record_fault.Fault why)
+    ↔ IsFaultFor (Requests confidence) road text (record_fault.Fault why)
 
 -- The answer to the text of a request is what a run for this request prints on the same files, but
 -- for the mark in the cursor at the end of a page.
 abbrev pub RequestsAreOfRuns : Type 0
-RequestsAreOfRuns = (nodes lines bans : List ℕ) (road : RoadMap) (text : List ℕ) (request : Request)
+RequestsAreOfRuns = (nodes lines bans : List ℕ) (road : RoadMap)
+    (confidence : Option ConfidenceFile) (text : List ℕ) (request : Request)
     (output answer : List ℕ) → IsMapOf nodes lines bans road
-    → IsQueryOf text (Ok (Reference request))
+    → IsAsked (Requests confidence) text (Ok (Reference request))
     → IsAnswerOfRun (known nodes lines bans) request (Ok output)
-    → IsReply Requests road text answer → IsSameOutput request road output answer
+    → IsReply (Requests confidence) road text answer → IsSameOutput request road output answer
 
 -- It has a fault in place of an answer exactly where such a run ends with this fault of the texts.
 abbrev pub RequestFaultsAreOfRuns : Type 0
-RequestFaultsAreOfRuns = (nodes lines bans : List ℕ) (road : RoadMap) (text : List ℕ)
-    (request : Request) (why : Fault) → IsMapOf nodes lines bans road
-    → IsQueryOf text (Ok (Reference request)) → why ≢ fault.NoMemory
+RequestFaultsAreOfRuns = (nodes lines bans : List ℕ) (road : RoadMap)
+    (confidence : Option ConfidenceFile) (text : List ℕ) (request : Request) (why : Fault)
+    → IsMapOf nodes lines bans road
+    → IsAsked (Requests confidence) text (Ok (Reference request)) → why ≢ fault.NoMemory
     → IsAnswerOfRun (known nodes lines bans) request (Err why)
-    ↔ IsFaultFor Requests road text (record_fault.Fault why)
+    ↔ IsFaultFor (Requests confidence) road text (record_fault.Fault why)
 
 -- ---- lines, beside a run for them
 
 -- The text of a request for lines is answered by what a run for them prints on the same map: there is
 -- one output.
 abbrev pub LinesAreOfRuns : Type 0
-LinesAreOfRuns = (road : RoadMap) (text : List ℕ) (asked : LinesRequest) (output answer : List ℕ)
-    → IsQueryOf text (Ok (Lines asked)) → AreLinesPrinted asked road output
-    → IsReply Requests road text answer → answer ≡ output
+LinesAreOfRuns = (road : RoadMap) (confidence : Option ConfidenceFile) (text : List ℕ)
+    (asked : LinesRequest) (output answer : List ℕ)
+    → IsAsked (Requests confidence) text (Ok (Lines asked)) → AreLinesPrinted asked road output
+    → IsReply (Requests confidence) road text answer → answer ≡ output
 
 -- ---- what these rest on
 
