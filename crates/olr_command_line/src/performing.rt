@@ -4,43 +4,57 @@ ghost use Rattle.std.specs.Prelude.{◌≡◌, OnOk};
 ghost use Rattle.std.specs.Io.KnownBytes.{Appends};
 ghost use Rattle.olr_explain.specs.Explaining.{explained_text};
 
+use crate::confidence::confidence_at;
 use crate::opening::{Disk, MapFiles, open, open_files};
-use olr_app::{
-    Fault, In, LegsRequest, LinesRequest, Request, Sink, Source, put_whole, run, run_legs,
-    run_lines,
-};
+use olr_app::{Fault, In, Sink, Source, put_whole, run, run_legs, run_lines};
 use olr_batch::run_batch;
 use olr_explain::{Section, Topic, explained, faults};
-use olr_words::{Asked, Files, Input, Records, Rejected, asked_of};
+use olr_words::{
+    Asked, AskedLegs, AskedLines, AskedRecords, AskedRequest, Input, Records, Rejected, asked_of,
+};
 use std::alloc::Global;
 
-/// Answers a request, on the map of these files if there are some.
+/// Answers a request, on its map if it reads one, whose files are opened before that of its confidence.
 fn answer_one<D: Disk, O: Sink>(
     alloc: Global,
-    request: &Request<'_>,
-    files: &Option<Files<'_>>,
+    asked: &mut AskedRequest<'_>,
     disk: &mut D,
     out: &mut O,
 ) -> Result<(), Fault> {
-    let Some(files) = files else {
+    let Some(files) = &asked.files else {
         let mut nodes = In::new(&[] as &[u8]);
         let mut lines = In::new(&[] as &[u8]);
         let mut bans = In::new(&[] as &[u8]);
-        return run(alloc, request, &mut nodes, &mut lines, &mut bans, out);
+        return run(
+            alloc,
+            &asked.request,
+            &mut nodes,
+            &mut lines,
+            &mut bans,
+            out,
+        );
     };
     let MapFiles {
         mut nodes,
         mut lines,
         mut bans,
     } = open_files(alloc, disk, files)?;
-    run(alloc, request, &mut nodes, &mut lines, &mut bans, out)
+    let confidence = confidence_at(alloc, disk, asked.confidence)?;
+    asked.request.set_confidence(confidence);
+    run(
+        alloc,
+        &asked.request,
+        &mut nodes,
+        &mut lines,
+        &mut bans,
+        out,
+    )
 }
 
-/// Answers a request for the legs of a matching on the map of these files.
+/// Answers a request for the legs of a matching.
 fn answer_legs<D: Disk, O: Sink>(
     alloc: Global,
-    asked: &LegsRequest<'_>,
-    files: &Files<'_>,
+    asked: &AskedLegs<'_>,
     disk: &mut D,
     out: &mut O,
 ) -> Result<(), Fault> {
@@ -48,15 +62,21 @@ fn answer_legs<D: Disk, O: Sink>(
         mut nodes,
         mut lines,
         mut bans,
-    } = open_files(alloc, disk, files)?;
-    run_legs(alloc, asked, &mut nodes, &mut lines, &mut bans, out)
+    } = open_files(alloc, disk, &asked.files)?;
+    run_legs(
+        alloc,
+        &asked.request,
+        &mut nodes,
+        &mut lines,
+        &mut bans,
+        out,
+    )
 }
 
-/// Answers a request for the lines of the map of these files.
+/// Answers a request for the lines of a map.
 fn answer_lines<D: Disk, O: Sink>(
     alloc: Global,
-    asked: &LinesRequest,
-    files: &Files<'_>,
+    asked: &AskedLines<'_>,
     disk: &mut D,
     out: &mut O,
 ) -> Result<(), Fault> {
@@ -64,8 +84,15 @@ fn answer_lines<D: Disk, O: Sink>(
         mut nodes,
         mut lines,
         mut bans,
-    } = open_files(alloc, disk, files)?;
-    run_lines(alloc, asked, &mut nodes, &mut lines, &mut bans, out)
+    } = open_files(alloc, disk, &asked.files)?;
+    run_lines(
+        alloc,
+        &asked.request,
+        &mut nodes,
+        &mut lines,
+        &mut bans,
+        out,
+    )
 }
 
 /// Answers the records of an input on the map of these files.
@@ -86,24 +113,25 @@ fn answer_input<F: Source + Drop, I: Source, O: Sink>(
     )
 }
 
-/// Answers many records on the map of these files, which are opened before the file of the records.
+/// Answers many records. The files of their map are opened before that of their confidence, and this
+/// one before that of the records.
 fn answer_many<D: Disk, O: Sink>(
     alloc: Global,
-    records: &Records,
-    files: &Files<'_>,
-    input: Input<'_>,
+    asked: &mut AskedRecords<'_>,
     disk: &mut D,
     out: &mut O,
 ) -> Result<(), Fault> {
-    let files = open_files(alloc, disk, files)?;
-    match input {
+    let files = open_files(alloc, disk, &asked.files)?;
+    let confidence = confidence_at(alloc, disk, asked.confidence)?;
+    asked.records.set_confidence(confidence);
+    match asked.input {
         Input::File(path) => {
             let mut input = open(disk, path, Fault::InputNotOpened)?;
-            answer_input(alloc, records, files, &mut input, out)
+            answer_input(alloc, &asked.records, files, &mut input, out)
         }
         Input::Standard => {
             let mut input = disk.standard_input();
-            answer_input(alloc, records, files, &mut input, out)
+            answer_input(alloc, &asked.records, files, &mut input, out)
         }
     }
 }
@@ -132,17 +160,15 @@ pub(crate) fn write_explained<O: Sink>(
 /// Opens the files that are asked for and answers what is asked.
 fn answer<D: Disk, O: Sink>(
     alloc: Global,
-    asked: &Asked<'_>,
+    asked: &mut Asked<'_>,
     disk: &mut D,
     out: &mut O,
 ) -> Result<(), Fault> {
     match asked {
-        Asked::One(request, files) => answer_one(alloc, request, files, disk, out),
-        Asked::Legs(asked, files) => answer_legs(alloc, asked, files, disk, out),
-        Asked::Lines(asked, files) => answer_lines(alloc, asked, files, disk, out),
-        Asked::Many(records, files, input) => {
-            answer_many(alloc, records, files, *input, disk, out)
-        },
+        Asked::One(asked) => answer_one(alloc, asked, disk, out),
+        Asked::Legs(asked) => answer_legs(alloc, asked, disk, out),
+        Asked::Lines(asked) => answer_lines(alloc, asked, disk, out),
+        Asked::Many(asked) => answer_many(alloc, asked, disk, out),
         Asked::Explain(topic) => write_explained(alloc, &faults(), topic, out),
     }
 }
@@ -155,7 +181,8 @@ fn answer<D: Disk, O: Sink>(
 ///
 /// What [`asked_of`] rejects, and no file is opened then; else [`Fault::OpenFailed`] with the first
 /// file that can't be opened, the nodes before the lines and these before the bans, or
-/// [`Fault::InputNotOpened`], which comes last; else the fault that [`run`], [`run_legs`], [`run_lines`] or
+/// [`Fault::ConfidenceNotOpened`]; else [`Fault::ConfidenceNotRead`], since the file of a confidence is
+/// read at once; or [`Fault::InputNotOpened`], which comes last; else the fault that [`run`], [`run_legs`], [`run_lines`] or
 /// [`run_batch`] answers. The caller prints the error where [`Rejected::is_help`] says, and ends with
 /// [`Rejected::status`].
 pub fn perform<D: Disk, O: Sink>(
@@ -164,7 +191,7 @@ pub fn perform<D: Disk, O: Sink>(
     disk: &mut D,
     out: &mut O,
 ) -> Result<(), Rejected> {
-    let asked = asked_of(alloc, words)?;
-    answer(alloc, &asked, disk, out)?;
+    let mut asked = asked_of(alloc, words)?;
+    answer(alloc, &mut asked, disk, out)?;
     Ok(())
 }
