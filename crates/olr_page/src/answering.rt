@@ -4,7 +4,7 @@ ghost use Rattle.std.specs.Prelude.{◌≡◌, ◌≢◌, ◌≤◌, IsNone, IsS
 
 use crate::kept::KeptMap;
 use crate::packed::PackedFiles;
-use olr_app::{Fault, In, Out};
+use olr_app::{ConfidenceFile, Fault, In, Out};
 use olr_batch::answer_records;
 use olr_command_line::{Files, Records, Rejected, read_map_of};
 use olr_map::{MapFault, read_map};
@@ -52,24 +52,39 @@ fn empty_map(alloc: Global) -> Result<Map, MapFault> {
     read_map(alloc, &mut In::new(NO_NODES), &mut In::new(NO_LINES))
 }
 
-/// Answers records on a map, or where there is none on an empty one, and writes their lines into a
-/// room.
+/// The file of a confidence of these bytes, or none where there are no bytes.
 ///
 /// # Errors
 ///
-/// Those of [`answer_records`].
+/// Where the allocator refused memory.
+fn confidence_of(alloc: Global, bytes: &[u8]) -> Result<Option<ConfidenceFile>, Fault> {
+    if bytes.is_empty() {
+        return Ok(None);
+    }
+    let file = ConfidenceFile::read(alloc, bytes)?;
+    Ok(Some(file))
+}
+
+/// Answers records on a map, or where there is none on an empty one, with the file of a confidence of
+/// these bytes if there are some, and writes their lines into a room.
+///
+/// # Errors
+///
+/// That the allocator refused memory, and those of [`answer_records`].
 fn answer_in(
     alloc: Global,
     map: Option<&Map>,
     records: &[u8],
+    confidence: &[u8],
     out: &mut Out<Cursor<&mut [u8]>>,
 ) -> Result<(), Fault> {
+    let file = confidence_of(alloc, confidence)?;
     let mut input = In::new(records);
     let Some(map) = map else {
         let map = empty_map(alloc)?;
-        return answer_records(alloc, &map, &Records::Requests, &mut input, out);
+        return answer_records(alloc, &map, &Records::Requests(file), &mut input, out);
     };
-    answer_records(alloc, map, &Records::Requests, &mut input, out)
+    answer_records(alloc, map, &Records::Requests(file), &mut input, out)
 }
 
 /// How many bytes stand in a room of which so many were written, in order.
@@ -122,12 +137,14 @@ pub extern "C" fn olr_page_open(
 }
 
 /// Answers records, as `olr answer` does on the map that is kept; where none is, on an empty one, which
-/// is enough for what a reference says. The room is full where their lines didn't fit: ask again with
-/// more room then. The map stays the same.
+/// is enough for what a reference says. `confidence` has the bytes of the file that `--confidence` would
+/// name, or none. The room is full where their lines didn't fit: ask again with more room then. The map
+/// stays the same.
 #[unsafe(no_mangle)]
 pub extern "C" fn olr_page_ask(
     alloc: Global,
     records: &[u8],
+    confidence: &[u8],
     kept: &mut KeptMap,
     output: &mut [u8],
     given: &mut Answer,
@@ -138,7 +155,7 @@ pub extern "C" fn olr_page_ask(
 {
     let map = kept.take(alloc);
     let mut out = Out::new(Cursor::new(&mut *output));
-    let ended = answer_in(alloc, map.as_deref(), records, &mut out);
+    let ended = answer_in(alloc, map.as_deref(), records, confidence, &mut out);
     given.status = match ended {
         Ok(()) => 0,
         Err(fault) => Rejected::from(fault).status(),
