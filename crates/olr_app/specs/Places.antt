@@ -7,7 +7,7 @@ use Rattle.olr_likely.specs.Asking.{AreAsked}
 use Rattle.olr_likely.specs.GeoJson.{shown_collection}
 use Rattle.olr_likely.specs.Json.{shown_object}
 use Rattle.olr_likely.specs.Text.{shown_text}
-use Rattle.olr_likely.specs.declared.asking.AskedPlaces.{AskedPlaces}
+use Rattle.olr_likely.specs.declared.asked.AskedPlaces.{AskedPlaces}
 use Rattle.olr_likely.specs.declared.showing.ShownPlaces.{ShownPlaces}
 use Rattle.olr_app.specs.Matching.{AreLayers}
 use Rattle.olr_app.specs.Page.{shown_for}

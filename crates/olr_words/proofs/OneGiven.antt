@@ -5,8 +5,8 @@ use Rattle.std.specs.Prelude.{codes, option_map, unwrap_or}
 use Rattle.std.specs.Bool.{one_answer}
 use Rattle.olr_request.specs.Request.{at_bytes, bytes_of}
 use Rattle.olr_request.specs.declared.request.Pages.TheVariants as pages
-use Rattle.olr_likely.specs.declared.asking.PlaceOrder.{PlaceOrder}
-use Rattle.olr_likely.specs.declared.asking.PlaceOrder.TheVariants.{Likely, Total}
+use Rattle.olr_likely.specs.declared.asked.PlaceOrder.{PlaceOrder}
+use Rattle.olr_likely.specs.declared.asked.PlaceOrder.TheVariants.{Likely, Total}
 use Rattle.olr_report.specs.declared.route_part.RoutePart.{RoutePart}
 use Rattle.olr_report.specs.declared.route_part.RoutePart.TheVariants.{Inner, Outer, Route}
 use Rattle.olr_request.specs.declared.request.Extras.{Extras}

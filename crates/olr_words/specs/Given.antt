@@ -3,8 +3,8 @@ use Rattle.std.specs.Prelude.{◌≡◌, ◌≢◌, ℕ, List, Option, None, Som
 use Rattle.std.specs.Str.Parse.{digits_value, without_leading_plus}
 use Rattle.olr_candidates.specs.Tolerances.{order_of, tolerance_name}
 use Rattle.olr_candidates.specs.declared.tolerances.Tolerance.{Tolerance}
-use Rattle.olr_likely.specs.declared.asking.PlaceOrder.{PlaceOrder}
-use Rattle.olr_likely.specs.declared.asking.PlaceOrder.TheVariants.{Likely, Total}
+use Rattle.olr_likely.specs.declared.asked.PlaceOrder.{PlaceOrder}
+use Rattle.olr_likely.specs.declared.asked.PlaceOrder.TheVariants.{Likely, Total}
 use Rattle.olr_report.specs.declared.route_part.RoutePart.{RoutePart}
 use Rattle.olr_report.specs.declared.route_part.RoutePart.TheVariants.{Inner, Outer, Route}
 use Rattle.olr_request.specs.declared.request.Extras.{Extras}
