@@ -24,6 +24,8 @@ from trials import Trial, build, main, write_town
 RECORDS = "town.records"
 FILES_READ = {0: RECORDS, 3: "town.nodes", 4: "town.lines", 5: "town.bans", 6: RECORDS}
 NAMES = {0: "input", 3: "nodes", 4: "lines", 5: "bans", 6: "input"}
+# A confidence is read behind the files of the map.
+CONFIDENCE = "town.confidence"
 TOWN = "CwVGnSN2zhvHCgDX/tIzAw=="
 # Eight records, of which the last one has no line feed: each has a line.
 INPUT = f"one\t{TOWN}\n{TOWN}\r\nbroken\t*\n".encode() + b"\xff\n" + f"\t{TOWN}\nmatch -- {TOWN}\n\tshow {TOWN}\nlast\t{TOWN}".encode()
@@ -43,6 +45,7 @@ CASES = [
     ["batch", "candidates", *FILES, "--input", RECORDS],
     ["places", TOWN, *FILES],
     ["places", TOWN, *FILES[:4], "--bearing", "12", *JSON],
+    ["places", TOWN, *FILES, "--order", "likely", *JSON, "--confidence", CONFIDENCE],
     ["batch", "places", *FILES],
     ["why", TOWN, *FILES, "--bearing", "0", "--nearest", "1"],
     ["why", TOWN, *FILES[:4], "--percent", "0", "--slack", "0", "--nearest", "0", *JSON],
@@ -80,6 +83,13 @@ def how(width, error):
     return f"{'fails with ' + errno.errorcode[error] if error else 'moves no byte'}, at most {width or 'all'} bytes a call"
 
 
+def of_descriptor(words, descriptor):
+    """The file that a run reads by a descriptor, and its name in a fault."""
+    if descriptor == 6 and CONFIDENCE in words:
+        return CONFIDENCE, "confidence"
+    return FILES_READ[descriptor], NAMES[descriptor]
+
+
 def lines_before(wanted, name, reads, width):
     """What is written of an answer before a read of a file fails, after so many reads of this width: the lines of the records that ended. The last
     one has ended where a read gave no byte."""
@@ -101,7 +111,7 @@ def fail_reads(trial, library, words, wanted):
                 break
             reads = max(reads, call)
             descriptor = ord(failed[0]) - ord("A")
-            name = NAMES.get(descriptor, "what is no input")
+            name = of_descriptor(words, descriptor)[1] if descriptor in NAMES else "what is no input"
             written = lines_before(wanted, name, notes.count(str(descriptor)), width)
             refused = (1, written, f"olr: ReadFailed {name}\n".encode())
             holds = found == (wanted if error == errno.EINTR else refused)
@@ -131,9 +141,10 @@ def short_reads(trial, library, words):
         if not any(letter.isupper() for letter in notes):
             break
         with tempfile.TemporaryDirectory() as folder:
-            for name in set(FILES_READ.values()):
+            files = {descriptor: of_descriptor(words, descriptor)[0] for descriptor in FILES_READ}
+            for name in set(files.values()):
                 data = (trial.folder / name).read_bytes()
-                reads = sum(notes.count(str(descriptor)) for descriptor, read in FILES_READ.items() if read == name)
+                reads = sum(notes.count(str(descriptor)) for descriptor, read in files.items() if read == name)
                 (pathlib.Path(folder) / name).write_bytes(data[: WIDTH * reads])
             shorter = Trial(trial.program, folder)
             shorter.given = RECORDS

@@ -126,6 +126,8 @@ CASES = [
     (["match", POINT, *on("one", "--shape", "--format", "json")], 0, '{"matchings":[{"cursor":"0:1.1","earliest":[7,278],"latest":[7,283],'),
     (["match", LINE, *on("four", "--radius", "10", "--page", "2", "--all", "--format", "geojson")], 0, '{"features":[{"geometry":{"coordinates":[[0,0],[0.0005,0],'),
     (["match", POINT, *on("one", "--shape", "--detail", "--format", "geojson")], 0, '{"features":[{"geometry":{"coordinates":[0.000252,0],"type":"Point"},'),
+    (["places", TOWN, *on("town", "--order", "likely", "--format", "geojson", "--confidence", "town.confidence")], 0, '{"cut":false,"differs":[],"features":[{'),
+    (["places", TOWN, *on("town", "--order", "likely", "--format", "json", "--confidence", "one.nodes")], 1, "olr: BadConfidence\n"),
     (["places", TOWN, *on("town", "--order", "likely", "--shape", "--format", "geojson", "--part", "inner")], 0, '{"cut":false,"features":[{"geometry":{"coordinates":[['),
     (["why", LINE, *on("one", "--nearest", "1", "--shape", "--format", "json")], 0, '{"legs":[{"admits":1,"class":3,"from":110,"of":1,"pairs":[],"to":1823}],"points":[{'),
     (["match", LINE, *on("one", "--shape")], 2, "error: "),

@@ -8,6 +8,7 @@ what was expected of each run. `try_all` does so for all cases, as many at a tim
 import argparse
 import concurrent.futures
 import fcntl
+import json
 import os
 import pathlib
 import resource
@@ -19,6 +20,17 @@ import tempfile
 HERE = pathlib.Path(__file__).resolve().parent
 TOP = HERE.parent
 NO_MEMORY = (1, b"", b"olr: NoMemory\n")
+# A confidence for the tolerances that stand where none are given.
+CONFIDENCE = {
+    "apart": 750,
+    "map_differs": {"high": 1000, "low": 0, "value": 500},
+    "tolerances": {"radius": 100, "bearing": 4, "class": 7, "lowest": 0, "percent": 30, "slack": 300},
+    "version": 3,
+    "weights": {
+        **{"distance": 1 << 20, "direction": 1 << 23, "leg": 1 << 20, "behind": 1 << 16, "turning_back": 1 << 25},
+        **{"none": -(1 << 24), "none_points": 1 << 20, "none_lines": 1 << 23, "none_length": 1 << 17},
+    },
+}
 # A run has this many seconds of a processor, and writes at most so many bytes: then it is ended, and that is a flaw. What it waits for a processor that
 # others use doesn't count. What waits for ever, and uses none, is ended with the whole script, by whoever runs that (./test).
 SECONDS = 60
@@ -60,7 +72,8 @@ def build(folder, source):
 
 
 def write_town(folder):
-    """Copies the files of the small town of examples/ into a folder."""
+    """Copies the files of the small town of examples/ into a folder, and writes a confidence."""
+    (pathlib.Path(folder) / "town.confidence").write_text(json.dumps(CONFIDENCE))
     for name in ("nodes", "lines", "bans"):
         (pathlib.Path(folder) / f"town.{name}").write_bytes((TOP / "examples" / f"{name}.csv").read_bytes())
 
