@@ -1,14 +1,16 @@
 """What is said to a process `olr answer`, and what it says, without the process: whoever drives one, by threads or in an event loop, writes
 what `ask` makes, hands over what was read, and at the end what else is known of it."""
 
+import os
 from collections.abc import Iterable, Iterator
 from pathlib import Path
 from typing import NamedTuple
 
 from olr.asking.files import MapFiles
+from olr.asking.program import PathLike
 from olr.asking.starting import failed_to_start
 from olr.errors import MapRefused, ProgramEnded, ProgramNotFound, ToolError
-from olr.model.fault import refusal_of
+from olr.model.fault import OF_CONFIDENCE, refusal_of
 from olr.model.objects import RawLine, raw_line
 from olr.model.questions import OfReference
 
@@ -59,9 +61,11 @@ def record_about(words: Iterable[str], reference: bytes) -> bytes:
     return b"%b -- %b" % (" ".join(words).encode(), reference)
 
 
-def words_of_process(files: MapFiles) -> list[str]:
-    """The words of a process behind the program, which has the map of these files. Raises `MapRefused` as `MapFiles.words`."""
-    return ["answer", *files.words()]
+def words_of_process(files: MapFiles, confidence: PathLike | None) -> list[str]:
+    """The words of a process behind the program, which has the map of these files, and the file of a confidence if there is one. Raises
+    `MapRefused` as `MapFiles.words`."""
+    of_places = [] if confidence is None else ["--confidence", os.fspath(confidence)]
+    return ["answer", *files.words(), *of_places]
 
 
 class Exchange:
@@ -116,7 +120,7 @@ class Exchange:
         line = text.splitlines()[0] if text else ""
         if not self.answered:
             refusal = failed_to_start(self._program, line) or refusal_of(line.removeprefix("olr: "))
-            if isinstance(refusal, (MapRefused, ProgramNotFound)):
+            if isinstance(refusal, (MapRefused, ProgramNotFound)) or line.endswith(OF_CONFIDENCE):
                 return refusal
             if status == STATUS_OF_WORDS:
                 return self._another_version(line)

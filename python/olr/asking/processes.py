@@ -31,10 +31,13 @@ class Processes:
         program: PathLike | None = None,
         patience: float | None = PATIENCE,
         most: int = 1,
+        confidence: PathLike | None = None,
     ) -> None:
         """Those of the map of these files, `most` of them for all who ask. `patience` is how many seconds somebody waits for a line; None for
-        as long as it takes."""
+        as long as it takes. Places have probabilities by the file of a confidence, if there is one.
+        """
         self.files, self._program, self._patience, self._most = files, program, patience, most
+        self._confidence = confidence
         self._there: list[Process] = []
         self._lock = threading.Lock()
         self._closed = False
@@ -92,7 +95,7 @@ class Processes:
         self, waiting: deque[bytes], failures: tuple[type[ToolError], ...]
     ) -> Generator[Line, None, None]:
         """The lines of records, each of which is asked when the one before is answered, by a process that nobody else asks."""
-        apart = Processes(self.files, self._program, self._patience)
+        apart = Processes(self.files, self._program, self._patience, confidence=self._confidence)
         self._apart.append(apart)
         try:
             if self._closed:
@@ -127,7 +130,7 @@ class Processes:
             self._there[:] = [one for one in self._there if one.error is None]
             least = min(self._there, key=Process.unanswered, default=None)
             if least is None or (least.unanswered() and len(self._there) < self._most):
-                least = Process(find_program(self._program), self.files)
+                least = Process(find_program(self._program), self.files, self._confidence)
                 self._there.append(least)
             least.start()
             return least

@@ -11,6 +11,8 @@ VARIABLE = "OLR_PROGRAM"
 PACKAGE = Path(__file__).resolve().parents[1]
 OWN = PACKAGE / "bin/olr"
 """The program that came with this package, as in a wheel, if one did."""
+SHIPPED = PACKAGE / "confidence/shipped.json"
+"""The file of a confidence that comes with this package: by it the program says how probable places are, if no other one is given."""
 PathLike = str | os.PathLike[str]
 
 

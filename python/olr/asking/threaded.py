@@ -13,6 +13,7 @@ from typing import IO, NoReturn
 
 from olr.asking.exchange import Exchange, words_of_process
 from olr.asking.files import MapFiles, Version
+from olr.asking.program import PathLike
 from olr.asking.starting import kill_group, start
 from olr.errors import ProgramEnded, TimedOut, ToolError
 from olr.model.objects import RawLine
@@ -31,11 +32,11 @@ class Process:
     anything that an interrupt, the garbage collector or another thread could spoil: whoever wants no more lines leaves the box.
     """
 
-    def __init__(self, program: Path, files: MapFiles) -> None:
-        """It is started by `start`."""
+    def __init__(self, program: Path, files: MapFiles, confidence: PathLike | None = None) -> None:
+        """It is started by `start`. Places have probabilities by the file of a confidence."""
         self.error: ToolError | None = None
         """Why it has ended, or is ending."""
-        self._program, self._files = program, files
+        self._program, self._files, self._confidence = program, files, confidence
         self._exchange = Exchange(program)
         self._asked: SimpleQueue[tuple[Sequence[bytes], Box] | None] = SimpleQueue()
         """What isn't written yet, and None behind the last of it."""
@@ -100,7 +101,7 @@ class Process:
     def _speak(self) -> NoReturn:
         """Starts the process, and asks it until it has ended. Raises `ToolError`."""
         version = self._files.found()
-        words, pipe = words_of_process(self._files), subprocess.PIPE
+        words, pipe = words_of_process(self._files, self._confidence), subprocess.PIPE
         pipes = {"stdin": pipe, "stdout": pipe, "stderr": pipe}
         with start(self._program, words, pass_fds=self._files.descriptors, **pipes) as process:
             self._process = process

@@ -7,7 +7,7 @@ from typing import TYPE_CHECKING, Any, Literal, NoReturn, cast, overload
 
 from olr.asking.files import MapFiles
 from olr.asking.patience import PATIENCE, require_patience
-from olr.asking.program import PathLike
+from olr.asking.program import SHIPPED, PathLike
 from olr.client.answering import Answering
 from olr.client.source import FilesSource
 from olr.extras import needed_by
@@ -76,21 +76,31 @@ class Map(Answering):
         program: PathLike | None = None,
         patience: float | None = PATIENCE,
         processes: int = 1,
+        confidence: PathLike | Literal[False] | None = None,
         profile: str = DEFAULT_PROFILE,
         **tolerances: int,
     ) -> None:
         """A map of these files; or, of one path alone, that of a folder with its `nodes.csv`, its `lines.csv` and, if it is there, its
         `bans.csv`, or of a store. The tolerances are those of the program's options: those that aren't given are those of the
         profile, which is "feed" as in all of `olr-tools`, or "program" for the program's own defaults. `find_program` says which
-        program is run, and `patience` for how many seconds it may answer nothing; with None it is waited for without end. Raises
-        `ValueError` for what is no profile, and for no number of processes.
+        program is run, and `patience` for how many seconds it may answer nothing; with None it is waited for without end. Places in the likely
+        order have probabilities by `confidence`, the file of one or an `olr.Confidence`: by default the one that comes with the package, and
+        with False none. Raises `ValueError` for what is no profile, and for no number of processes.
         """
         self._ask_with(profile, tolerances)
         self._program = None if program is None else Path(program)
         self._patience = require_patience(patience)
         if processes < 1:
             raise ValueError(f"processes is how many there may be, from 1 on, not {processes!r}")
-        made = partial(FilesSource, program=self._program, patience=self._patience, most=processes)
+        self._confidence = SHIPPED if confidence is None else confidence or None
+        self._given = (nodes, lines, bans)
+        made = partial(
+            FilesSource,
+            program=self._program,
+            patience=self._patience,
+            most=processes,
+            confidence=self._confidence,
+        )
         store = None if lines is not None else store_of(Path(nodes))
         files = MapFiles.of_folder(Path(nodes)) if lines is None else MapFiles(nodes, lines, bans)
         self._source: "FilesSource | StoreSource" = (
@@ -129,6 +139,12 @@ class Map(Answering):
         other.__dict__.update(self.__dict__)
         other._ask_with(profile, tolerances)
         return other
+
+    def _with_confidence(self, confidence: PathLike) -> "Map":
+        """A map of the same files that is asked as this one, but by another confidence, and by a process of its own."""
+        nodes, lines, bans = self._given
+        given: dict[str, Any] = {"program": self._program, "patience": self._patience}
+        return Map(nodes, lines, bans, confidence=confidence, **given, **self._asked_with)
 
     def _ask_with(self, profile: str, tolerances: Mapping[str, int]) -> None:
         """Sets the tolerances."""
@@ -201,6 +217,16 @@ class Map(Answering):
         True
         """
         return self._program
+
+    @property
+    def confidence(self) -> Path | None:
+        """The file of the confidence by which places have probabilities; None for none.
+
+        >>> import olr
+        >>> olr.Map("examples").confidence.name
+        'shipped.json'
+        """
+        return None if self._confidence is None else Path(self._confidence)
 
     @property
     def files(self) -> MapFiles:
@@ -313,7 +339,8 @@ class Map(Answering):
     ) -> Places:
         """Whether a reference fits one place, or several. `apart` is in decimetres, from 0 to 1,000,000; `within` in penalty points,
         from 0 to 14,620; `look` in matchings, from 1 to 1,000,000; `most` in places, from 1 to 100. The places are in the order of their
-        totals, or with "likely" first those that the sender most likely meant; `detail` and `shape` are as in `match`. Raises as `Map` says.
+        totals, or with "likely" first those that the sender most likely meant, and with how probable each is, in millionths; `detail` and
+        `shape` are as in `match`. Raises as `Map` says.
 
         >>> import olr
         >>> with olr.Map("examples/nodes.csv", "examples/lines.csv") as town:
@@ -323,8 +350,8 @@ class Map(Answering):
         >>> with olr.Map("examples/nodes.csv", "examples/lines.csv") as town:
         ...     found = town.places("CwVGnSN2zhvHCgDX/tIzAw==", order="likely", detail=True)
         ...
-        >>> [(place.rank, place.cost / 30, place.matching.turns_back) for place in found]
-        [(2, 28.6, False), (1, 51.8, False)]
+        >>> [(place.rank, place.cost / 30, place.probability > 500_000) for place in found]
+        [(2, 28.6, True), (1, 51.8, False)]
         """
         settings = {"apart": apart, "within": within, "look": look, "most": most}
         options = {"order": order, "detail": detail, "shape": shape}

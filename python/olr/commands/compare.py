@@ -14,7 +14,7 @@ from olr.comparing.limits import Allowed, summary_text
 from olr.comparing.places import Limits
 from olr.comparing.rows import add_chunk
 from olr.comparing.summary import Summary
-from olr.confidence.choosing import cut_off_line, judging_for
+from olr.confidence.choosing import chosen_for, cut_off_line
 from olr.geometry.agreement import ACROSS
 from olr.matching.writing import Output, Where, require_writable, writing_rows
 from olr.messages.message import Reading
@@ -105,7 +105,6 @@ def command(
     """
     asking = options.of_question("places", chosen)
     where: Where = "force" if force else "new"
-    sure = judging_for(confidence, asking.tolerances, asking.numbers)
     own = [] if confidence is None else [confidence]
     inputs = [file, *inputs_of(old), *inputs_of(new), *own]
     require_writable(out, where, inputs)
@@ -123,11 +122,14 @@ def command(
         output = Output(out, "changes", CHANGES).keeping(given.kept)
         changed = Changed(0 if page_file is None else rows, output.kept)
         before, after = (
-            stack.enter_context(Map.of_folder(one, **asking.tolerances, patience=patience))
+            stack.enter_context(
+                Map.of_folder(one, **asking.tolerances, patience=patience, confidence=confidence)
+            )
             for one in (old, new)
         )
+        sure = chosen_for(after, asking.numbers, confidence is not None)
         limits = Limits(across, apart / 10)
-        comparison = Comparison(before, after, asking.numbers, limits, sure.judging)
+        comparison = Comparison(before, after, asking.numbers, limits)
         made, summary_made = (
             one and stack.enter_context(whole_file(one, force, inputs))
             for one in (page_file, summary_file)
@@ -140,9 +142,9 @@ def command(
             changed.add(chunk.references)
             advance(len(chunk.references))
         if made is not None:
-            by = sure.note or _probable_by(confidence)
+            probable = sure.note or _probable_by(confidence)
             numbers = asking.text() + more
-            about = About(name_of(file), old, new, numbers, asking.all_numbers(), by)
+            about = About(name_of(file), old, new, numbers, asking.all_numbers(), probable)
             page = page_of(about, summary, changed, after)
             made.write_text(page, encoding="utf-8")
         if summary_made is not None:

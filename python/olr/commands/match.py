@@ -10,8 +10,7 @@ from typing import Any
 from olr.client.map_client import Map
 from olr.commands import options
 from olr.commands.shifting import Wanted, line_of, shift_for, shift_option
-from olr.confidence.choosing import Chosen, cut_off_line, judging_for
-from olr.confidence.judged import Judging
+from olr.confidence.choosing import chosen_for, cut_off_line
 from olr.matching.asking import Asked
 from olr.matching.columns import NO_PLACE, OF_QUESTION, PIECES
 from olr.matching.lacking import Lacking
@@ -25,9 +24,8 @@ from olr.matching.writing import (
 )
 from olr.messages.message import Reading
 from olr.messages.message_file import message_file
-from olr.model.asked_with import Asking
 from olr.model.map_folder import inputs_of
-from olr.model.questions import NUMBERS, Setting, What, listing
+from olr.model.questions import NUMBERS, Setting, What, likely
 
 
 @click.command()
@@ -94,34 +92,36 @@ def command(
     asking = options.of_question(question, chosen)
     where = _where(force, append)
     outputs = _outputs(question, why, out, pieces)
-    sure = _judging(confidence, asking)
+    if confidence is not None and not places:
+        raise click.UsageError("--confidence is for --places")
     inputs = [file, *inputs_of(folder), *([] if confidence is None else [confidence])]
     for output in outputs:
         require_writable(output.file, where, inputs)
-    with Map.of_folder(folder, **asking.tolerances, patience=patience) as asked:
+    tolerances = asking.tolerances
+    with Map.of_folder(folder, patience=patience, confidence=confidence, **tolerances) as asked:
+        sure = chosen_for(asked, asking.numbers, confidence is not None) if places else None
         lacking = Lacking(asked, asking.other())
         found = shift_for(asked, file, reading, shift)
         reading = reading._replace(shift=found or (0.0, 0.0))
         with ExitStack() as stack:
-            within = None if sure.judging.shown is None else sure.judging.shown.within
             nowhere_to = None if why else lacking
             beside = ReasonsBeside(asked, lacking) if places and why else None
             given = stack.enter_context(message_file(file, reading))
             outputs[0] = outputs[0].keeping(given.kept)
-            messages = Asked(asked, given, nowhere_to, within, beside)
+            messages = Asked(asked, given, nowhere_to, beside)
             written = [stack.enter_context(writing_rows(one, where, inputs)) for one in outputs]
             if question == "why":
                 messages.write_reasons(asking.numbers, written[0])
             else:
                 second = written[1] if len(written) > 1 else None
-                settings: Mapping[str, Setting] = asking.numbers
-                settings = listing(settings) if places else settings
+                settings: Mapping[str, Setting] = (
+                    likely(asking.numbers) if places else asking.numbers
+                )
                 network = asked.network() if pieces and has_geometries(pieces) else None
                 messages.write_answers(
                     question,
                     settings,
                     part,
-                    sure.judging,
                     written[0],
                     second,
                     network,
@@ -139,7 +139,7 @@ def command(
         line_of(shift, found),
         nowhere,
         cut_off_line(messages.cut_off),
-        sure.note,
+        sure and sure.note,
     ):
         if more:
             click.echo(more)
@@ -150,16 +150,6 @@ def _where(force: bool, append: bool) -> Where:
     if force and append:
         raise click.UsageError("--force replaces a file, and --append adds to it: give one of them")
     return "force" if force else "append" if append else "new"
-
-
-def _judging(file: Path | None, asking: Asking) -> Chosen:
-    """By what answers to a question are judged: matchings aren't. Raises `UsageError` for a file where none is used, and `ToolError` if it
-    isn't one of these tolerances."""
-    if asking.question == "places":
-        return judging_for(file, asking.tolerances, asking.numbers)
-    if file is not None:
-        raise click.UsageError("--confidence is for --places")
-    return Chosen(Judging(), "")
 
 
 def _outputs(question: What, with_reasons: bool, out: Path, pieces: Path | None) -> list[Output]:

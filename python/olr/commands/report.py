@@ -7,10 +7,9 @@ from pathlib import Path
 from olr.client.map_client import Map
 from olr.commands import options
 from olr.commands.shifting import ADVICE
-from olr.confidence.choosing import judging_for
+from olr.confidence.choosing import chosen_for
 from olr.confidence.messages import LEAST_CHECKED
 from olr.confidence.shift import shift_found
-from olr.confidence.shown import Shown
 from olr.matching.asking import Asked
 from olr.matching.columns import ANSWERS
 from olr.matching.kept_columns import kept_columns
@@ -77,12 +76,14 @@ def command(
         raise click.UsageError("--check writes another page: leave out --live and --rows")
     inputs = [messages, *inputs_of(folder), *([] if confidence is None else [confidence])]
     require_page(file, force, inputs)
-    sure = judging_for(confidence, asking.tolerances, asking.numbers)
     html_of(TEMPLATE, "", {}, tiles)  # What is missing is said before anything is asked.
     if live:
         find_module()
     with ExitStack() as stack:
-        asked = stack.enter_context(Map.of_folder(folder, **asking.tolerances, patience=patience))
+        tolerances, by = asking.tolerances, confidence
+        opened = Map.of_folder(folder, patience=patience, confidence=by, **tolerances)
+        asked = stack.enter_context(opened)
+        sure = chosen_for(asked, asking.numbers, confidence is not None)
         given = stack.enter_context(message_file(messages, reading))
         if check is not None:
             checking = Checking(messages, folder, reading, asking, sure)
@@ -91,9 +92,9 @@ def command(
             click.echo("\n".join([f"{file}: {lines[0]}", *lines[1:]]))
             return
         lacking = Lacking(asked, asking.other())
-        questions = Asked(asked, given, within=Shown.of(asking.numbers).within)
-        counted = count(questions, asked, asking.numbers, rows, sure.judging, lacking)
-        found = rows_of(counted.sample, asked, asking.numbers, sure.judging)
+        questions = Asked(asked, given)
+        counted = count(questions, asked, asking.numbers, rows, lacking)
+        found = rows_of(counted.sample, asked, asking.numbers, sure.confidence)
         drawn = [one.message for one in counted.sample]
         shift = shift_found(asked, [one.reference for one in drawn])
         made = Making(folder, confidence, tiles)

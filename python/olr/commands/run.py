@@ -8,11 +8,11 @@ from contextlib import contextmanager
 from pathlib import Path
 from typing import TYPE_CHECKING
 
-from olr.asking.program import find_program
+from olr.asking.program import SHIPPED, find_program
 from olr.client.map_client import Map
 from olr.commands import options
-from olr.confidence.choosing import cut_off_line, judging_for
-from olr.content import Stamp
+from olr.confidence.choosing import Chosen, chosen_for, cut_off_line
+from olr.content import Stamp, sha256_of
 from olr.errors import ToolError
 from olr.extras import needed_by
 from olr.messages.message import KEY, REF, Reading
@@ -21,7 +21,7 @@ from olr.messages.opening import as_file, name_of
 from olr.messages.reading import WANTED, format_in
 from olr.model.asked_with import Asking
 from olr.model.map_folder import LINES, LINES_HEADER, NODES, NODES_HEADER, write_rows
-from olr.model.questions import LIST, NUMBERS, Setting, What, listing
+from olr.model.questions import NUMBERS, Setting, What, likely
 from olr.outputs import require_free_file
 from olr.regions.store import Store
 from olr.running.answering import ANSWERED, Job
@@ -42,11 +42,6 @@ if TYPE_CHECKING:
 
 ROWS = (".csv", ".geojson", ".gpkg", ".parquet")
 """Endings of files of rows."""
-OF_ROWS, OF_LINES = (
-    {name: one for name, one in NUMBERS["places"].items() if (name in LIST) == are_of_rows}
-    for are_of_rows in (True, False)
-)
-"""The numbers of `places` that say which places rows show, and those on which lines depend: these have all places."""
 
 
 @click.command()
@@ -105,8 +100,7 @@ OF_ROWS, OF_LINES = (
     "candidates", "asked for", "Ask for the candidates of each point of a reference"
 )
 @options.number_options(NUMBERS["match"], "without --places, --why and --candidates, ")
-@options.number_options(OF_LINES, "with --places, ")
-@options.number_options(OF_ROWS, "with --places, in the rows of --geometries and --pieces, ")
+@options.number_options(NUMBERS["places"], "with --places, ")
 @options.number_options(NUMBERS["why"], "with --why, ")
 @options.tolerance_options
 @options.confidence_option
@@ -139,7 +133,7 @@ def command(
     """Match any number of references on a map of any size, on many processors or machines.
 
     MESSAGES has a key, a tab and a reference on each line, or is CSV, JSON, XML or a table of a GIS; - is standard input. DIR gets files with the lines of
-    olr batch, parts/000000.jsonl and so on; with --places those of olr batch places --within 14620 --most 100 --order likely --detail. A part is
+    olr batch, parts/000000.jsonl and so on; with --places those of olr batch places --order likely --detail --confidence FILE. A part is
     complete or absent: whatever happens, --resume goes on after what is written.
     """
     question = options.one_question({"places": places, "why": why, "candidates": candidates})
@@ -168,19 +162,11 @@ def command(
     is_drawn = geometries is not None and geometries.suffix.lower() != ".csv"
     if is_drawn or (resume and run.has_shapes()):
         given["shape"] = True
-    if confidence is not None and (geometries is None or question != "places"):
-        raise click.UsageError("--confidence is for --geometries with --places")
-    sure = None
+    if confidence is not None and question != "places":
+        raise click.UsageError("--confidence is for --places")
     if question == "places":
-        given = listing(given)
-        if rows is not None:
-            sure = judging_for(confidence, asking.tolerances, asking.numbers)
-            rows = rows._replace(judging=sure.judging)
-    _require_numbers(asking, asked_map, patience)
-    if rows is None and not OF_ROWS.keys().isdisjoint(asking.numbers):
-        raise click.UsageError(
-            "--within and --most are for --geometries and --pieces: the lines of --places have all places"
-        )
+        given = likely(given)
+    sure = _require_numbers(asking, asked_map, patience, confidence)
     copy, name = click.get_current_context().with_resource(as_file(messages)), name_of(messages)
     stamp, kind = Stamp.of(copy, WANTED), format_in(copy, reading, name)
     if rows is not None and geometries is not None and (reading.keep or kind == "xml"):
@@ -200,11 +186,13 @@ def command(
         ref=reading.ref or REF,
         key=reading.key or KEY,
         base64=reading.base64,
+        confidence=sha256_of(confidence or SHIPPED) if question == "places" else None,
     )
     records = read_records(copy, reading._replace(keep=()), name)
     records = of_one_edition(records, copy, stamp, name)
     with run.begun(asked, records, resume) as grouped:
-        job = Job(out.absolute(), asked_map, asked, grouped.sha256, patience)
+        by = None if confidence is None else confidence.absolute()
+        job = Job(out.absolute(), asked_map, asked, grouped.sha256, patience, by)
         outcome = _answer(job, grouped, scheduler, workers)
         run.sync()
         _report(run, grouped, outcome, asking)
@@ -221,9 +209,10 @@ def command(
             written = write_geometries(rows, asked, asked_map, asked_lines)
             for made, count in written.files:
                 click.echo(f"{made}: {count:,} rows")
-            for more in (cut_off_line(written.cut_off), sure and sure.note):
-                if more:
-                    click.echo(more)
+            if more := cut_off_line(written.cut_off):
+                click.echo(more)
+        if sure and sure.note:
+            click.echo(sure.note)
         _require_answers(run, outcome.counts)
 
 
@@ -265,16 +254,23 @@ def _rows(
     return rows
 
 
-def _require_numbers(asking: Asking, asked_map: AskedMap, patience: float) -> None:
-    """Raises `Fault` where the program refuses a number, `MapRefused` where it refuses the map of a folder, `ProgramNotFound`, and `TimedOut`
-    where it answers nothing for so many seconds: before anything is written."""
+def _require_numbers(
+    asking: Asking, asked_map: AskedMap, patience: float, confidence: Path | None
+) -> Chosen | None:
+    """The confidence of places. Raises `Fault` where the program refuses a number, `MapRefused` where it refuses the map of a folder,
+    `ProgramNotFound`, `TimedOut` where it answers nothing for so many seconds, and as `chosen_for`: before anything is written.
+    """
     with _scratch_files(), temporary_folder("olr-run.") as scratch:
         folder = scratch if asked_map.is_store else asked_map.path
         if asked_map.is_store:
             write_rows(folder / NODES, NODES_HEADER, [])
             write_rows(folder / LINES, LINES_HEADER, [])
-        with Map.of_folder(folder, patience=patience, **asking.tolerances) as asked:
+        tolerances = asking.tolerances
+        with Map.of_folder(folder, patience=patience, confidence=confidence, **tolerances) as asked:
             list(asked.answers(asking.question, [""], **asking.numbers))
+            if asking.question != "places":
+                return None
+            return chosen_for(asked, asking.numbers, confidence is not None)
 
 
 def _answer(job: Job, grouped: Grouped, scheduler: str | None, workers: int | None) -> Outcome:

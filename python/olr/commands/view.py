@@ -5,7 +5,7 @@ from pathlib import Path
 
 from olr.client.map_client import Map
 from olr.commands import options
-from olr.confidence.choosing import cut_off_line, judging_for
+from olr.confidence.choosing import chosen_for, cut_off_line
 from olr.messages.finding import message_of_key, message_of_record
 from olr.messages.message import Message, Reading
 from olr.model.asked_with import name_for_program
@@ -62,9 +62,10 @@ def command(
         find_module()  # What is missing is said before anything is asked.
     inputs = [*inputs_of(folder), *(one for one in (messages, confidence) if one is not None)]
     require_page(file, force, inputs)
-    sure = judging_for(confidence, asking.tolerances, asking.numbers)
-    with Map.of_folder(folder, **asking.tolerances, patience=patience) as asked:
-        scene = scene_of(text, asked, sure.judging.confidence, **asking.numbers)
+    tolerances = asking.tolerances
+    with Map.of_folder(folder, patience=patience, confidence=confidence, **tolerances) as asked:
+        sure = chosen_for(asked, asking.numbers, confidence is not None)
+        scene = scene_of(text, asked, sure.confidence, **asking.numbers)
         made = Making(folder, confidence, tiles)
         message = Message(record or 0, reference if messages else None, text)
         answering = page_for_reference(asked, made, asking, message) if live else None

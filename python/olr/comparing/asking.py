@@ -1,23 +1,20 @@
 """The messages of a file that are asked on two maps, a chunk at a time: no more of them are held."""
 
 from collections.abc import Iterable, Iterator, Mapping, Sequence
-from dataclasses import replace
 from itertools import islice, tee
 from typing import NamedTuple, cast
 
 from olr.client.map_client import Map
 from olr.comparing.changes import Compared, Side, compared
 from olr.comparing.places import Answer, Limits, likeliest_places
-from olr.confidence.judged import Judged, Judging, judged
 from olr.geometry.network import Network
 from olr.matching.rows import AnswerRows
 from olr.messages.message import Message
 from olr.model.answers import Places
-from olr.model.fault import Fault
-from olr.model.questions import Setting, listing
+from olr.model.questions import Setting, likely
 
 CHUNK = 64
-"""So many references are compared at once: each has up to 100 places on both maps."""
+"""So many references are compared at once."""
 
 
 class Chunk(NamedTuple):
@@ -31,13 +28,10 @@ class Chunk(NamedTuple):
 class Comparison:
     """Two maps, of which both are asked about each reference."""
 
-    def __init__(
-        self, old: Map, new: Map, numbers: Mapping[str, int], limits: Limits, judging: Judging
-    ) -> None:
-        """The numbers are those of `places`. Both maps are asked for all places that may be shown, and `judging` says which of them are.
-        Reads both maps. Raises `ToolError`."""
-        self._old, self._new = (_Asked(one, one.network(), judging) for one in (old, new))
-        self._settings, self._limits = listing(numbers) | {"shape": True}, limits
+    def __init__(self, old: Map, new: Map, numbers: Mapping[str, int], limits: Limits) -> None:
+        """The numbers are those of `places`. Reads both maps. Raises `ToolError`."""
+        self._old, self._new = (_Asked(one, one.network()) for one in (old, new))
+        self._settings, self._limits = likely(numbers) | {"most": 1, "shape": True}, limits
 
     def chunks(self, messages: Iterable[Message]) -> Iterator[Chunk]:
         """The references of messages, compared. Raises `ToolError`, also if a store changes meanwhile."""
@@ -67,7 +61,6 @@ class _Asked(NamedTuple):
 
     map: Map
     network: Network
-    judging: Judging
 
     def places(
         self, messages: Iterable[Message], settings: Mapping[str, Setting]
@@ -82,20 +75,12 @@ class _Asked(NamedTuple):
         self, texts: Sequence[str], answers: Sequence[Answer]
     ) -> tuple[list[Side], AnswerRows]:
         """Where the map has references, by the answers about their places, and why those have none that have none; and their rows."""
-        judgements = judged(answers, self.judging)
-        rows, shapes = likeliest_places(answers, judgements, self.network)
+        rows, shapes = likeliest_places(answers, self.network)
         lacking = [isinstance(one, Places) and not one.places for one in answers]
         wanted = [text for text, lacks in zip(texts, lacking) if lacks]
         reasons = iter(list(self.map.answers("why", wanted, nearest=0)) if wanted else [])
         sides = [
-            Side(_shown(answer, judgement), shape, next(reasons) if lacks else None, judgement)
-            for answer, judgement, shape, lacks in zip(answers, judgements, shapes, lacking)
+            Side(answer, shape, next(reasons) if lacks else None)
+            for answer, shape, lacks in zip(answers, shapes, lacking)
         ]
         return sides, rows
-
-
-def _shown(answer: Answer, judgement: Judged | None) -> Answer:
-    """An answer with the verdict on the places that are shown."""
-    if judgement is None or isinstance(answer, Fault):
-        return answer
-    return replace(answer, verdict=judgement.verdict)

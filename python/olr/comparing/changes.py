@@ -25,9 +25,8 @@ from collections.abc import Mapping
 from typing import Literal, NamedTuple
 
 from olr.comparing.places import Answer, Difference, Limits, Shape, difference
-from olr.confidence.judged import Judged, JudgedPlace
 from olr.messages.message import Message
-from olr.model.answers import Places, Why
+from olr.model.answers import PlaceOfReference, Places, Why
 from olr.model.fault import Fault
 
 Change = Literal["same", "moved", "lost", "found", "none", "refused"]
@@ -45,21 +44,18 @@ class Side(NamedTuple):
     """What one of the maps says of a reference."""
 
     answer: Answer
-    """With the verdict on the places that are shown."""
     shape: Shape | None
     """Of the likeliest place, if there is one."""
     why: Why | Fault | None = None
     """Of a reference that has no place there."""
-    judged: Judged | None = None
-    """How probable its places are; None for a fault."""
 
     def fault(self) -> str | None:
         """Why the map refuses the reference, or why it isn't said what stands in its way."""
         return next((it.text for it in (self.answer, self.why) if isinstance(it, Fault)), None)
 
-    def place(self) -> JudgedPlace | None:
+    def place(self) -> PlaceOfReference | None:
         """The likeliest place, if there is one."""
-        return self.judged.places[0] if self.judged and self.judged.places else None
+        return self.answer.places[0] if isinstance(self.answer, Places) and self.answer else None
 
 
 class Compared(NamedTuple):
@@ -81,9 +77,8 @@ class Compared(NamedTuple):
 
     def is_cut_off(self) -> bool:
         """Whether a map may have another place for it: looking was cut off before."""
-        return any(
-            side.judged is not None and side.judged.is_cut_off for side in (self.old, self.new)
-        )
+        answers = (self.old.answer, self.new.answer)
+        return any(isinstance(one, Places) and bool(one.cut) for one in answers)
 
     def is_changed(self) -> bool:
         """Whether something is otherwise with the new map: the place, how certain it is, or whether the reference is refused."""

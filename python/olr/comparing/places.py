@@ -22,7 +22,6 @@ from collections.abc import Iterator, Sequence
 from typing import NamedTuple
 
 from olr.arrays import Floats
-from olr.confidence.judged import Judged
 from olr.geometry.agreement import DIGITS, agreement, agreement_of_segments
 from olr.geometry.network import Network, middle
 from olr.geometry.parts import parts_of
@@ -76,11 +75,10 @@ class Difference(NamedTuple):
 
 
 def likeliest_places(
-    answers: Sequence[Answer], judgements: Sequence[Judged | None], network: Network
+    answers: Sequence[Answer], network: Network
 ) -> tuple[AnswerRows, list[Shape | None]]:
     """A row for each answer, of its likeliest place if it has one, and the shapes of these. Raises as `rows_of`."""
-    firsts = [one and one._replace(places=one.places[:1]) for one in judgements]
-    rows = AnswerRows(rows_of(answers, firsts, [None] * len(answers)), network)
+    rows = AnswerRows(rows_of(answers, [None] * len(answers)), network)
     along = _along([one for one in rows.matchings if one is not None], network)
     shapes: list[Shape | None] = []
     for row, points in zip(rows.rows, rows.shapes.each()):

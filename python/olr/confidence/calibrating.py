@@ -8,7 +8,7 @@ from scipy.special import expit
 from typing import Any, NamedTuple
 
 from olr.arrays import Booleans, Floats
-from olr.confidence.confidence import Confidence
+from olr.confidence.confidence import SOME_REFERENCE, Confidence, Range
 from olr.confidence.feed import LEAST_REFERENCES, SAYING, statistics_of
 from olr.confidence.fitting import (
     Checked,
@@ -23,7 +23,6 @@ from olr.confidence.likeness import (
     WIDTH_OF_MAPS,
     WIDTH_OF_WRONG,
     Likeness,
-    Range,
     alike,
     are_outside,
     counting,
@@ -48,8 +47,6 @@ from olr.model.road_map import RoadMap
 from olr.trials.rightness import RIGHT
 from olr.version import VERSION
 
-SOME_REFERENCE = "CwVF/yN2yRpnBAFUAAgbpwYBAf9kK0Fa"
-"""To ask whether the program reads a map."""
 DECIMALS, DECIMALS_OF_MAPS = 4, 3
 """Of numbers in a file that aren't whole, and of how different maps are."""
 OUTSIDE = 0.1

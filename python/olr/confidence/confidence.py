@@ -1,38 +1,43 @@
-"""How probable it is that a place is the right one: `olr.Confidence`."""
+"""By which numbers and weights the program says how probable places are: `olr.Confidence`."""
 
+import json
+import os
 from collections.abc import Mapping
 from dataclasses import dataclass
 from functools import cache
 from pathlib import Path
-from typing import Any
+from typing import Any, NamedTuple
 
-from olr.extras import needed_by
-from olr.model.profiles import DEFAULT_PROFILE, resolved
+from olr.asking.program import SHIPPED
+from olr.errors import ToolError, readable
 
-with needed_by("olr.Confidence", "geo"):
-    import numpy as np
+THOUSANDTHS = 1000
+"""In which a file says how different maps are, and the program too."""
+SOME_REFERENCE = "CwVF/yN2yRpnBAFUAAgbpwYBAf9kK0Fa"
+"""A line, wherever the map is: to ask whether the program reads a map and a confidence, and which numbers that is for."""
+BAD_CONFIDENCE = "BadConfidence"
+"""The fault of what is asked about places with a file that is none."""
 
-    from olr.confidence.likeness import Range
-    from olr.confidence.terms import Terms
-    from olr.confidence.weights import WEIGHTS, Probabilities, differences_of, probabilities
 
-DEFAULT = Path(__file__).with_name("shipped.json")
-"""The file that comes with the package."""
+class Range(NamedTuple):
+    """A number, and the interval of 95 percent in which it lies."""
+
+    value: float
+    low: float
+    high: float
 
 
 @dataclass(frozen=True)
-class Confidence:
-    """How probable it is that each place of an answer is the one that the sender meant, and that none is: by trials on a map.
-
-    It is of the places of a line reference, asked with these tolerances and this `apart`, and of all of them that are within looking.
+class Confidence(os.PathLike[str]):
+    """How probable it is that each place of a line reference is the one that the sender meant, and that none is: by trials on a map. The
+    program says it by the file of one, which is a path of it too.
 
     >>> import olr
     >>> text, sure = "CwVF/yN2yRpnBAFUAAgbpwYBAf9kK0Fa", olr.Confidence.default()
-    >>> with olr.Map("examples") as town:
-    ...     answers = [town.places(text, within=14620, most=100, order="likely", detail=True, shape=True)]
-    ...     table = olr.to_geodataframe(answers, town, confidence=sure, most=1)
+    >>> with olr.Map("examples", confidence=sure) as town:
+    ...     found = town.places(text, order="likely")
     ...
-    >>> bool(table["probability"][0] > 0.9)
+    >>> found.places[0].probability > 900_000
     True
     """
 
@@ -41,7 +46,7 @@ class Confidence:
     apart: int
     """In decimetres."""
     weights: Mapping[str, int]
-    """By the names of `WEIGHTS`, in parts of a binary order."""
+    """By their names, in parts of a binary order."""
     map_differs: Range | None
     """How different the sender's map is, 1 as that of another maker, with an interval of 95 percent. None if it is known otherwise."""
     about: Mapping[str, Any]
@@ -49,19 +54,37 @@ class Confidence:
     level: float = 0.0
     """How far the share of likeliest places that are right lies from what is told of them, over the trials that count: a standard
     deviation."""
+    file: Path | None = None
+    """None for one that isn't written yet."""
 
     @classmethod
-    def of_file(cls, file: str | Path) -> "Confidence":
-        """What `olr-tools calibrate` wrote. Raises `ToolError` if the file can't be read, or is none.
+    def of_file(cls, file: str | os.PathLike[str]) -> "Confidence":
+        """What `olr-tools calibrate` wrote. Raises `ToolError` if the file can't be read, or is none. Numbers that it can't have are refused
+        by the program.
 
         >>> import olr
         >>> olr.Confidence.of_file("examples/nodes.csv")
         Traceback (most recent call last):
         olr.errors.ToolError: ...
         """
-        from olr.confidence.contents import read_confidence
-
-        return read_confidence(Path(file))
+        path = Path(file)
+        with readable(path, "olr-tools calibrate makes one"):
+            content = path.read_bytes()
+        try:
+            found = json.loads(content)
+            differs = found["map_differs"]
+            return cls(
+                tolerances=dict(found["tolerances"]),
+                apart=found["apart"],
+                weights=dict(found["weights"]),
+                map_differs=differs
+                and Range(*(differs[name] / THOUSANDTHS for name in Range._fields)),
+                about=dict(found["about"]),
+                level=float(found["level"]),
+                file=path,
+            )
+        except (ValueError, TypeError, LookupError, RecursionError) as error:
+            raise no_confidence(path, f"{type(error).__name__}: {error}") from error
 
     @classmethod
     def default(cls) -> "Confidence":
@@ -73,42 +96,19 @@ class Confidence:
         """
         return _default()
 
-    def others(self, tolerances: Mapping[str, int], apart: int) -> str:
-        """Which numbers are others than those that it was made with; an empty text if none is. Tolerances that aren't given are those of the
-        default profile; `class` may be called `class_`.
+    def __fspath__(self) -> str:
+        if self.file is None:
+            raise ValueError("this confidence isn't written to a file")
+        return os.fspath(self.file)
 
-        >>> import olr
-        >>> sure = olr.Confidence.default()
-        >>> sure.others({"radius": 100}, sure.apart)
-        'radius is 100, not 75'
-        """
-        asked = {**resolved(DEFAULT_PROFILE, tolerances), "apart": apart}
-        made = {**self.tolerances, "apart": self.apart}
-        others = [
-            f"{name} is {asked[name]}, not {made[name]}"
-            for name in made
-            if asked[name] != made[name]
-        ]
-        return "; ".join(others)
 
-    def of(self, terms: Terms) -> Probabilities:
-        """How probable it is that each place of answers is the right one, and of each answer that has one that none of its places is.
-
-        >>> import olr
-        >>> from olr.confidence.terms import terms_of
-        >>> text, sure = "CwVF/yN2yRpnBAFUAAgbpwYBAf9kK0Fa", olr.Confidence.default()
-        >>> with olr.Map("examples") as town:
-        ...     found = town.places(text, within=14620, most=100, order="likely", detail=True)
-        ...
-        >>> of_place, of_none = sure.of(terms_of([found]))
-        >>> bool(of_place[0] + of_none[0] > 0.999)
-        True
-        """
-        weights = np.array([float(self.weights[name]) for name in WEIGHTS])
-        return probabilities(weights, differences_of(terms))
+def no_confidence(file: str | os.PathLike[str], why: object) -> ToolError:
+    """The error of a file that is no confidence."""
+    about = f"{os.fspath(file)} is no confidence file, as olr-tools calibrate writes it"
+    return ToolError(f"{about}: {why}")
 
 
 @cache
 def _default() -> Confidence:
     """The one that comes with the package, read once."""
-    return Confidence.of_file(DEFAULT)
+    return Confidence.of_file(SHIPPED)

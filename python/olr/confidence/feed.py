@@ -4,12 +4,13 @@ import numpy as np
 from typing import Any
 
 from olr.arrays import Floats, Integers
-from olr.confidence.shown import POINT
 from olr.confidence.terms import Terms
 from olr.confidence.weights import differences_of, probabilities
 
 LEAST_REFERENCES = 80
 """A feed of fewer references says too little."""
+POINT = 30
+"""In so many parts of a penalty point the likely cost is told."""
 LONG_LEG = 5000
 """Decimetres: the lengths of shorter legs are too coarse to tell how much two maps differ."""
 SAYING = (

@@ -5,9 +5,9 @@ of odds. Parts of which it says the same as of the feed are alike, whatever they
 """
 
 import numpy as np
-from typing import NamedTuple
 
 from olr.arrays import Booleans, Floats
+from olr.confidence.confidence import Range
 
 RIDGE = 3.0
 """What is added to the squares of the numbers, which are in standard deviations: so few parts don't decide much."""
@@ -19,14 +19,6 @@ where that is stated. Standard deviations of normal curves, which are wider wher
 LEAST_PARTS = 20
 """So many parts count at least, if there are twice as many: of fewer parts half."""
 INTERVAL = (0.025, 0.975)
-
-
-class Range(NamedTuple):
-    """A number, and the interval of 95 percent in which it lies."""
-
-    value: float
-    low: float
-    high: float
 
 
 class Likeness:

@@ -21,7 +21,7 @@ from olr.geometry.parts import parts_of as arrays_of
 from olr.model.answers import Matching, Places
 from olr.model.map_folder import read_map, write_records
 from olr.model.profiles import as_arguments
-from olr.model.questions import NUMBERS, Setting, listing
+from olr.model.questions import LIST, NUMBERS, Setting
 from olr.model.road_map import RoadMap
 from olr.outputs import writing
 from olr.progress import progress
@@ -76,11 +76,11 @@ class Asking(NamedTuple):
     def map_of(self, folder: Path) -> Map:
         """The map of a folder, to ask it."""
         tolerances: dict[str, Any] = as_arguments(self.tolerances)
-        return Map.of_folder(folder, **tolerances, patience=self.patience)
+        return Map.of_folder(folder, **tolerances, patience=self.patience, confidence=False)
 
     def settings(self) -> dict[str, Setting]:
         """Those of the question."""
-        return listing({"apart": self.apart, "look": self.look})
+        return {"apart": self.apart, "look": self.look, **LIST}
 
 
 class Answered(NamedTuple):

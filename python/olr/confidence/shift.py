@@ -14,10 +14,10 @@ from olr.client.map_client import Map
 from olr.geometry.plane import DEGREE, Plane, Segments
 from olr.geometry.stretches import distances
 from olr.model.answers import Places
-from olr.model.questions import LIST, Setting
+from olr.model.questions import Setting
 from olr.model.reference import read_points
 
-LIKELIEST: dict[str, Setting] = {**LIST, "most": 1, "detail": False, "shape": True}
+LIKELIEST: dict[str, Setting] = {"most": 1, "order": "likely", "shape": True}
 """How places are asked for of which the likeliest one alone counts."""
 LEAST_POINTS, LEAST_SHARE = 50, 1 / 3
 """Fewer points say too little, and so do references of which a smaller share has a place."""

@@ -1,4 +1,4 @@
-"""What the program says for and against the places of many answers, as arrays: the terms of probabilities and reasons.
+"""What the program says for and against the places of many answers, as arrays: that by which weights are fitted, and what a feed shows.
 
 All are whole numbers, in the units of the program.
 """
@@ -9,10 +9,8 @@ from typing import NamedTuple
 
 from olr.arrays import Booleans, Integers, sums_of
 from olr.geometry.parts import members_of, parts_of
-from olr.model.answers import Matching, Places
+from olr.model.answers import Places
 
-MOST_END = 500
-"""Decimetres that a point lies from the proper end of its line at most, as it is counted: farther away is no worse."""
 OF_POINT = ("end", "distance", "sectors", "classes", "parts.form")
 """What is taken of each point. One costs something for its form exactly where its line has another one."""
 OF_LEG = ("least", "greatest", "length")
@@ -101,13 +99,6 @@ def terms_of(answers: Sequence[Places | None]) -> Terms:
         greatest=greatest,
         length=length,
     )
-
-
-def ends_of(matchings: Sequence[Matching]) -> list[float | None]:
-    """How far the points of each lie from the proper ends of their lines together, in metres, `MOST_END` at most of each. None without detail."""
-    (ends,), counts = members_of([one.points for one in matchings if one.cost is not None], ["end"])
-    sums = iter((sums_of(np.minimum(ends, MOST_END), counts) / 10).tolist())
-    return [None if one.cost is None else next(sums) for one in matchings]
 
 
 def _greatest_of(values: Integers, counts: Integers) -> Integers:

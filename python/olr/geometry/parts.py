@@ -6,10 +6,12 @@ from collections.abc import Iterator, Mapping, Sequence
 from numpy.typing import NDArray
 from typing import Any, NamedTuple
 
-from olr.arrays import Floats, Integers, ranges
+from olr.arrays import Floats, Integers, ranges, sums_of
 from olr.model.display import text_of
 from olr.model.pieces import Pieces, Spots
 
+MOST_END = 500
+"""Decimetres that a point lies from the proper end of its line at most, as it is counted: farther away is no worse."""
 _NO_NUMBERS = bytes(set(range(256)) - set(b"0123456789-.,"))
 
 
@@ -105,6 +107,13 @@ def members_of(lists: Sequence[Sequence[Any]], names: Sequence[str]) -> Members:
     numbers = _numbers_in(b",".join(filter(b"[]".__ne__, texts))).reshape(-1, len(known))
     counts = braces * len(items) // first.count(b"{")
     return Members(numbers[:, list(map(known.index, names))].T, counts)
+
+
+def ends_of(lists: Sequence[Sequence[Any]]) -> list[float]:
+    """How far the points of matchings in detail lie from the proper ends of their lines together, in metres, `MOST_END` at most of each."""
+    (ends,), counts = members_of(lists, ["end"])
+    result: list[float] = (sums_of(np.minimum(ends, MOST_END), counts) / 10).tolist()
+    return result
 
 
 def _names_of(members: Mapping[str, Any], before: str = "") -> Iterator[str]:

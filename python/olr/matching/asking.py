@@ -10,8 +10,6 @@ from typing import TYPE_CHECKING
 
 from olr.client.answering import candidates_counted, drawn_answers
 from olr.client.map_client import Map
-from olr.confidence.judged import Judging
-from olr.confidence.shown import listed_within
 from olr.matching.chunks import Answered, chunks_of
 from olr.matching.lacking import Lacking
 from olr.matching.reasons import ReasonsBeside, rows_of_reasons
@@ -41,13 +39,12 @@ class Asked:
         asked: Map,
         file: MessageFile,
         lacking: Lacking | None = None,
-        within: int | None = None,
         beside: ReasonsBeside | None = None,
     ) -> None:
         """The messages of a file that are asked of a map. Those that fit nowhere go to `lacking`; or `beside` says in the rows of their places
-        why. Verdicts on places are those with `within`, where a longer list is asked for.
+        why.
         """
-        self._map, self._lacking, self._within, self._beside = asked, lacking, within, beside
+        self._map, self._lacking, self._beside = asked, lacking, beside
         self._total = file.total
         self._messages = file.messages()
         self.outcomes: Counter[str] = Counter()
@@ -60,20 +57,19 @@ class Asked:
         question: What,
         settings: Mapping[str, Setting],
         part: Extent,
-        judging: Judging,
         rows: Sink,
         pieces: Sink | None,
         network: "Network | None",
         with_geometries: bool,
     ) -> None:
-        """Asks where the references are, and writes rows of the answers, judged, with or without geometries, and of their pieces, which have some
-        if there is a network. Raises `ToolError`."""
+        """Asks where the references are, and writes rows of the answers, with or without geometries, and of their pieces, which have some if
+        there is a network. Raises `ToolError`."""
         messages, again = tee(self._messages)
         counted = candidates_counted(self._map, (message.reference for message in again))
         drawn = part if with_geometries else None
         both = zip(self._answered(messages, question, settings, drawn), counted, strict=True)
         answered = (Answered(message, answer, count) for (message, answer), count in both)
-        for chunk in chunks_of(answered, self._map, judging):
+        for chunk in chunks_of(answered, self._map):
             self.cut_off += chunk.cut_off()
             made = chunk.rows(part)
             rows.add(chunk.items, self._beside.rows(chunk, made) if self._beside else made)
@@ -119,8 +115,6 @@ class Asked:
         with progress("matching", self._total) as advance:
             for message, found in zip(messages, answers, strict=True):
                 answer = message.answer(found)
-                if isinstance(answer, Places) and self._within is not None:
-                    answer = listed_within(answer, self._within)
                 outcome = outcome_of(answer)
                 self.outcomes[outcome] += 1
                 if outcome == NOWHERE and self._lacking is not None:

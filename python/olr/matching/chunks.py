@@ -1,10 +1,9 @@
-"""Answers that say where references are, judged in chunks of some hundred rows."""
+"""Answers that say where references are, in chunks of some hundred rows."""
 
 from collections.abc import Iterable, Iterator, Sequence
 from functools import cached_property
 from typing import TYPE_CHECKING, Generic, NamedTuple, TypeVar
 
-from olr.confidence.judged import Judging, judged
 from olr.matching.columns import ANSWERS, PIECES
 from olr.matching.rows import AnswerRows, Extent, Ground, Located, PieceRows, Row, Rows, rows_of
 from olr.matching.tables import values_of
@@ -31,21 +30,18 @@ class Answered(NamedTuple, Generic[Item]):
 
 
 class Chunk(Generic[Item]):
-    """Some answers, judged."""
+    """Some answers."""
 
-    def __init__(
-        self, answered: Sequence[Answered[Item]], sources: Ground | None, judging: Judging
-    ) -> None:
+    def __init__(self, answered: Sequence[Answered[Item]], sources: Ground | None) -> None:
         """See `chunks_of`."""
         self._sources = sources
         self._counts = [_number_of(one.candidates) for one in answered]
         self.items = [one.item for one in answered]
         self.answers = [_located(one.answer) for one in answered]
-        self.judgements = judged(self.answers, judging)
 
     def cut_off(self) -> int:
         """How many answers may lack a place that would be shown: looking was cut off before."""
-        return sum(one is not None and one.is_cut_off for one in self.judgements)
+        return sum(isinstance(one, Places) and bool(one.cut) for one in self.answers)
 
     def rows(self, extent: Extent = "outer") -> Rows:
         """The table of answers: of lines the outer or the inner part. They have the geometries that were asked for. Raises as `Sources`."""
@@ -60,14 +56,10 @@ class Chunk(Generic[Item]):
 
     @cached_property
     def _rows(self) -> list[Row]:
-        return rows_of(self.answers, self.judgements, self._counts)
+        return rows_of(self.answers, self._counts)
 
 
-def chunks_of(
-    answered: Iterable[Answered[Item]],
-    sources: Ground | None,
-    judging: Judging = Judging(),
-) -> Iterator[Chunk[Item]]:
+def chunks_of(answered: Iterable[Answered[Item]], sources: Ground | None) -> Iterator[Chunk[Item]]:
     """Answers in chunks of some hundred rows. Raises `TypeError` for an answer to another question."""
     some: list[Answered[Item]] = []
     rows = 0
@@ -75,10 +67,10 @@ def chunks_of(
         some.append(one)
         rows += _count(_located(one.answer))
         if rows >= ROWS:
-            yield Chunk(some, sources, judging)
+            yield Chunk(some, sources)
             some, rows = [], 0
     if some:
-        yield Chunk(some, sources, judging)
+        yield Chunk(some, sources)
 
 
 def _located(answer: AnswerOrFault) -> Located:

@@ -5,14 +5,13 @@ from typing import TYPE_CHECKING, Any
 
 from olr.matching.tables import Column, Columns, columns_of
 from olr.messages.message import Message
-from olr.model.answers import Matching, Remedy, Why
+from olr.model.answers import MapDiffers, Matching, PlaceOfReference, Places, Remedy, Why
 from olr.model.fault import Fault
 from olr.model.questions import What
+from olr.model.reasons import sentence_of
 from olr.model.road_map import Origin
 
 if TYPE_CHECKING:
-    from olr.confidence.judged import Judged, JudgedPlace
-    from olr.confidence.likeness import Range
     from olr.matching.rows import AnswerRows, PieceRows, Row
 
 Reasons = Why | Fault
@@ -31,24 +30,24 @@ def of_matchings(value: Callable[[Matching], Any]) -> "Callable[[AnswerRows], Va
     return lambda rows: [None if one is None else value(one) for one in rows.matchings]
 
 
-def of_places(value: "Callable[[JudgedPlace], Any]") -> "Callable[[AnswerRows], Values]":
+def of_places(value: Callable[[PlaceOfReference], Any]) -> "Callable[[AnswerRows], Values]":
     """What each row has of its place."""
     return lambda rows: [None if one is None else value(one) for one in rows.places]
 
 
-def of_first(value: "Callable[[Judged], Any]") -> "Callable[[AnswerRows], Values]":
-    """What the row of the likeliest place of an answer has of all of them."""
+def of_first(value: Callable[[Places], Any]) -> "Callable[[AnswerRows], Values]":
+    """What the first row of an answer has of all of its places."""
     return lambda rows: [None if one is None else value(one) for one in rows.firsts]
 
 
-def of_difference(value: "Callable[[Range], float]") -> "Callable[[AnswerRows], Values]":
+def of_difference(value: Callable[[MapDiffers], int]) -> "Callable[[AnswerRows], Values]":
     """What that row has of how different maps are."""
-    return of_first(lambda it: it.map_differs and rounded(value(it.map_differs)))
+    return of_first(lambda it: it.map_differs and value(it.map_differs) / 1000)
 
 
-def rounded(number: float | None, digits: int = DIGITS) -> float | None:
-    """A probability, or another number, with the digits that are shown."""
-    return None if number is None else round(number, digits)
+def share(millionths: int | None) -> float | None:
+    """A probability, 0 to 1, with the digits that are shown."""
+    return None if millionths is None else round(millionths / 1_000_000, DIGITS)
 
 
 def whole(fact: bool | None) -> int | None:
@@ -59,15 +58,15 @@ def whole(fact: bool | None) -> int | None:
 class Answers:
     """Those of matchings and of places, between the key and the geometry."""
 
-    likely = Column("int64", of_places(lambda it: it.likely))
+    likely = Column("int64", of_rows(lambda it: it.likely))
     """of a place in the likely order of those that are shown, from 1"""
     rank = Column("int64", of_rows(lambda it: it.rank))
     """of the matching or place in the program's order, from 1: that of totals"""
     verdict = Column("str", of_rows(lambda it: it.verdict))
     """`match` or `none`; with `--places` `unique`, `ambiguous`, `open` or `none`, by totals; `fault` for a message that is refused"""
-    probability = Column("float", of_places(lambda it: rounded(it.probability)))
+    probability = Column("float", of_places(lambda it: share(it.probability)))
     """how probable it is that the place is the right one, 0 to 1 ([CONFIDENCE.md](CONFIDENCE.md))"""
-    none_of_these = Column("float", of_first(lambda it: rounded(it.none_of_these)))
+    none_of_these = Column("float", of_first(lambda it: share(it.none_of_these)))
     """once a message: how probable it is that none of all places that were found is the right one, 0 to 1"""
     map_differs = Column("float", of_difference(lambda it: it.value))
     """once a message: how different the map of the sender seems from yours, 0 as the same one and 1 as another vendor's"""
@@ -83,14 +82,14 @@ class Answers:
     """penalty points of the paths between them: for their lengths"""
     gap = Column("int64", of_rows(lambda it: it.gap))
     """by how many points its total is worse than the best one"""
-    margin = Column("int64", of_rows(lambda it: it.judged and it.judged.margin))
+    margin = Column("int64", of_rows(lambda it: None if it.answer is None else it.answer.margin))
     """the gap of the second place in the program's order, whether it is shown or not"""
-    ends_m = Column("float", of_places(lambda it: rounded(it.ends, 1)))
+    ends_m = Column["AnswerRows"]("float", lambda rows: rows.ends_m())
     """how far the points of the place lie from the proper ends of their lines, all added up, in metres, 50 at most of each point: the start
     of a line, and for the last point its end"""
-    turns_back = Column("int64", of_places(lambda it: whole(it.turns_back)))
+    turns_back = Column("int64", of_places(lambda it: whole(it.matching.turns_back)))
     """1 if the route of the place turns back, which with the usual bans is at a dead end, else 0"""
-    members = Column("int64", of_places(lambda it: it.place.members))
+    members = Column("int64", of_places(lambda it: it.members))
     """how many matchings are this place"""
     candidates = Column("int64", of_rows(lambda it: it.candidates))
     """how many lines all points of the reference may lie on: those of each point, added up"""
@@ -112,8 +111,8 @@ class Answers:
     """the length of the outer part in metres"""
     inner_m = Column["AnswerRows"]("float", lambda rows: rows.inner_m())
     """the length of the inner part in metres: 0 where the location may be nothing"""
-    reasons = Column("str", of_places(lambda it: it.reasons or None))
-    """why the place is as probable, the weightiest reason first, with `; ` between them"""
+    reasons = Column("str", of_places(lambda it: sentence_of(it.reasons)))
+    """why the place is no more probable: what alone halves its probability, or more, with `; ` between them"""
     cursor = Column("str", of_matchings(lambda it: it.cursor))
     """names the matching, as `olr match --after` takes it"""
     fault = Column("str", of_rows(lambda it: it.fault))

@@ -14,9 +14,6 @@ with needed_by("olr.to_geodataframe", "geo"):
     import numpy as np
     import pandas
 
-    from olr.confidence.confidence import Confidence
-    from olr.confidence.judged import Judging
-    from olr.confidence.shown import Shown
     from olr.geometry.network import Network
     from olr.matching.chunks import Answered, Counted, chunks_of
     from olr.matching.columns import ANSWERS, PIECES
@@ -35,9 +32,6 @@ def to_geodataframe(
     keys: Iterable[object] | None = None,
     part: Extent = "outer",
     candidates: Iterable[Counted] | None = None,
-    confidence: "Confidence | None" = None,
-    within: int | None = None,
-    most: int | None = None,
 ) -> "geopandas.GeoDataFrame":
     """A row for each matching of pages, and for each place of answers to `places`, in the order of the answers, in metres and degrees
     (EPSG:4326).
@@ -49,11 +43,9 @@ def to_geodataframe(
     the same references: without them nobody knows how many there are. Sources and names are those of `sources`, which is the map that was asked: without
     it these columns are empty.
 
-    The columns of places are those of `olr-tools match --places` if the answers are asked for as it does: by `within=14620, most=100,
-    order="likely", detail=True, shape=True`. Then `within` and `most` here say which of them are shown, as those options of the command do; where either is
-    given the other one is at its default. Probabilities are by `confidence`, one of the same tolerances such as `olr.Confidence.default()`;
-    without it these columns are empty. Without `order="likely"` `likely` is empty, and `rank` is the number in the answer; without `detail`
-    `ends_m` and `turns_back` are empty.
+    The columns of places are those of `olr-tools match --places` if the answers are asked for as it does: by `order="likely", detail=True,
+    shape=True`. Without `order="likely"` there are no probabilities, `likely` is empty, and `rank` is the number in the answer; without
+    `detail` `ends_m` and `turns_back` are empty. Probabilities are by the `confidence` of the map that was asked.
 
     >>> import olr
     >>> with olr.Map("examples") as town:
@@ -68,8 +60,8 @@ def to_geodataframe(
     `attrs` has the `asked_with` of the maps that were asked, if it is the same for all answers that know it.
 
     The columns and their types are the same whatever is in them: `Int64`, `float64`, or `object` with texts or None. Raises `ValueError`
-    for answers without geometries, if there are more keys than answers or fewer, the part is another one, or places were asked for otherwise than
-    a `confidence` needs, and `TypeError` for one answer or one key in place of many; and `ToolError` if the sources can't be read.
+    for answers without geometries, if there are more keys than answers or fewer, or the part is another one, and `TypeError` for one answer or
+    one key in place of many; and `ToolError` if the sources can't be read.
     """
     require_extent(part)
     if sources is not None and not hasattr(sources, "sources"):
@@ -77,15 +69,8 @@ def to_geodataframe(
         raise TypeError(f"to_geodataframe takes the map that was asked, not {name}")
     asked: list[Mapping[str, Any]] = []
     answered = map(_with_shape, _answered("to_geodataframe", asked, answers, keys, candidates))
-    chunks = chunks_of(answered, sources, Judging(confidence, _shown(within, most)))
+    chunks = chunks_of(answered, sources)
     return _table(((one.items, one.rows(part)) for one in chunks), ANSWERS, keys is None, asked)
-
-
-def _shown(within: int | None, most: int | None) -> Shown | None:
-    """Which places are shown: all for None."""
-    numbers = {"within": within, "most": most}
-    given = {name: number for name, number in numbers.items() if number is not None}
-    return Shown(**given) if given else None
 
 
 def to_pieces(

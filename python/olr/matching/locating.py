@@ -9,14 +9,14 @@ from olr.extras import needed_by
 from olr.messages.message import Base64
 from olr.messages.texts import plain_base64, require_base64
 from olr.model.fault import Fault
-from olr.model.questions import LIST
+from olr.model.questions import LIKELY
 from olr.progress import watched
 
 with needed_by("olr.locate", "geo"):
     import geopandas
     import pandas
 
-    from olr.confidence.choosing import judging_with
+    from olr.confidence.choosing import chosen_for
     from olr.confidence.confidence import Confidence
     from olr.matching.columns import ANSWERS
     from olr.matching.geodataframe import ASKED_WITH, CRS, to_geodataframe
@@ -53,7 +53,7 @@ def locate(
     With `base64="url"` the references are in base64 for URLs: `-` and `_` in place of `+` and `/`, and perhaps without `=`. The table keeps them
     as they are.
 
-    Probabilities are by the `confidence`, or else by the one that comes with the package, which is for the profile `feed`: with other
+    Probabilities are by the `confidence`, or else by that of the map. The one that comes with the package is for the profile `feed`: with other
     tolerances these columns are empty. `part` is that of the geometry, `outer` or `inner`.
 
     >>> import olr, pandas
@@ -76,10 +76,11 @@ def locate(
     table, cells = _table_of(data, ref)
     columns = {name: f"{prefix}{name}" for name in (*ANSWERS, "geometry")}
     texts = [plain_base64(cell, base64) if isinstance(cell, str) else "" for cell in cells]
-    with opened(map) as asked:
-        sure = judging_with(confidence, asked.tolerances, {}).judging.confidence
+    with opened(map, confidence) as asked:
+        if confidence is not None:
+            chosen_for(asked, {}, is_named=True)
         answers: Iterator[Any] = (
-            asked.answers("places", texts, shape=True, **LIST)
+            asked.answers("places", texts, shape=True, most=1, **LIKELY)
             if places
             else asked.answers("match", texts, page=1, shape=True)
         )
@@ -89,8 +90,6 @@ def locate(
                 asked,
                 part=part,
                 candidates=asked.answers("candidates", texts),
-                confidence=sure,
-                most=1,
             )
     kept = pandas.DataFrame(table).rename(columns=_kept_names(table, columns.values()))
     result = kept.assign(**{new: found[name].array for name, new in columns.items()})

@@ -7,9 +7,8 @@ from itertools import groupby
 from typing import TYPE_CHECKING, Any, Literal, NamedTuple, TypeVar, get_args
 
 from olr.arrays import Booleans, Floats, Integers, sums_of
-from olr.confidence.judged import Judged, JudgedPlace
-from olr.geometry.parts import Parts, Polylines, members_of, parts_of, polylines_of
-from olr.model.answers import Matching, Page, Places
+from olr.geometry.parts import Parts, Polylines, ends_of, members_of, parts_of, polylines_of
+from olr.model.answers import Matching, Page, PlaceOfReference, Places
 from olr.model.fault import Fault
 from olr.model.pieces import Pieces, Spots, between
 from olr.model.road_map import Origin
@@ -47,19 +46,21 @@ def require_extent(part: str) -> None:
 
 
 class Row(NamedTuple):
-    """A matching of an answer, or a place of it that is shown; or an answer that has none."""
+    """A matching of an answer, or a place of it; or an answer that has none."""
 
     number: int
     """Of the answer, from 0."""
     candidates: int | None
     """How many all points of the reference have together, if that is known."""
     verdict: str
-    judged: Judged | None = None
-    """The answer as it is judged, if it is one to `places`."""
+    answer: Places | None = None
+    """The answer, if it is one to `places`."""
     rank: int | None = None
     gap: int | None = None
     matching: Matching | None = None
-    place: JudgedPlace | None = None
+    place: PlaceOfReference | None = None
+    likely: int | None = None
+    """Of a place in the likely order, from 1: None in another one."""
     fault: str | None = None
 
     def is_point(self) -> bool:
@@ -85,21 +86,16 @@ class Row(NamedTuple):
         return one.shape.outer if extent == "outer" else one.shape.inner
 
 
-def rows_of(
-    answers: Sequence[Located],
-    judgements: Sequence[Judged | None],
-    candidates: Sequence[int | None],
-) -> list[Row]:
-    """A row for each matching of pages, and for each place of answers to `places` that is shown, in their order; one for an answer that has
-    none."""
+def rows_of(answers: Sequence[Located], candidates: Sequence[int | None]) -> list[Row]:
+    """A row for each matching of pages, and for each place of answers to `places`, in their order; one for an answer that has none."""
     return [
         row
-        for number, one in enumerate(zip(answers, judgements, candidates, strict=True))
+        for number, one in enumerate(zip(answers, candidates, strict=True))
         for row in _rows(number, *one)
     ]
 
 
-def _rows(number: int, answer: Located, judged: Judged | None, count: int | None) -> list[Row]:
+def _rows(number: int, answer: Located, count: int | None) -> list[Row]:
     """The rows of an answer."""
     if isinstance(answer, Fault):
         return [Row(number, count, "fault", fault=answer.text)]
@@ -109,11 +105,17 @@ def _rows(number: int, answer: Located, judged: Judged | None, count: int | None
             Row(number, count, "match", None, rank, one.total - found[0].total, one)
             for rank, one in enumerate(found, 1)
         ] or [Row(number, count, "none")]
-    assert judged is not None
+    whole = Row(number, count, answer.verdict, answer)
     return [
-        Row(number, count, judged.verdict, judged, it.rank, it.place.gap, it.place.matching, it)
-        for it in judged.places
-    ] or [Row(number, count, judged.verdict, judged)]
+        whole._replace(
+            rank=one.rank or at,
+            gap=one.gap,
+            matching=one.matching,
+            place=one,
+            likely=None if one.rank is None else at,
+        )
+        for at, one in enumerate(answer, 1)
+    ] or [whole]
 
 
 class AnswerRows:
@@ -126,10 +128,8 @@ class AnswerRows:
         self.rows, self._sources, self._extent = rows, sources, extent
         self.matchings = [row.matching for row in rows]
         self.places = [row.place for row in rows]
-        self.firsts = [
-            row.judged if row.place is not None and row.place.likely == 1 else None for row in rows
-        ]
-        """The answers, in the rows of their likeliest places."""
+        self.firsts = [row.answer if row.place is None or row.likely == 1 else None for row in rows]
+        """The answers, in the rows of their likeliest places, or of that they have none."""
         self._outers = [row.pieces("outer") for row in rows]
         self._outer = parts_of(self._outers)
         self._shown = self._outer
@@ -154,6 +154,15 @@ class AnswerRows:
             None if one is None or legs is None else one.total - legs
             for one, legs in zip(self.matchings, self.penalties_of_legs)
         ]
+
+    def ends_m(self) -> list[float | None]:
+        """How far the points of each place lie from the proper ends of their lines together: None without detail."""
+        are_known = [
+            row.place is not None and row.place.matching.cost is not None for row in self.rows
+        ]
+        known = [one.points for one, is_known in zip(self.matchings, are_known) if one and is_known]
+        ends = iter(ends_of(known))
+        return [next(ends) if is_known else None for is_known in are_known]
 
     def parts(self) -> list[str | None]:
         """What is shown."""

@@ -11,6 +11,7 @@ from typing import Any, Literal, TypeVar
 from olr.model.display import Displayed, Point, asked_for, counted, plain
 from olr.model.fault import Fault
 from olr.model.pieces import Pieces, Place, Spot, Spots
+from olr.model.reasons import Reason
 
 Known = TypeVar("Known")
 MOST_IDS = 6
@@ -308,6 +309,15 @@ class Page(AboutReference):
         return [route for one in self.matchings for route in one._routes()]
 
 
+@dataclass(frozen=True)
+class MapDiffers:
+    """How different the sender's map is, in thousandths: 0 as the same map, 1000 as that of another vendor, with an interval of 95 percent."""
+
+    high: int
+    low: int
+    value: int
+
+
 @dataclass(frozen=True, repr=False)
 class PlaceOfReference(Displayed):
     """Matchings that cover one stretch of road, of which `matching` is the best one. `gap` is in penalty points."""
@@ -319,6 +329,15 @@ class PlaceOfReference(Displayed):
     """By totals, from 1, among all places that were looked at. None but in the likely order, as `cost`."""
     cost: int | None = asked_for()
     """The likely cost, in thirtieths of a penalty point."""
+    probability: int | None = None
+    """How probable it is that the place is the right one, in millionths. None but in the likely order, as `reasons`, for a point along a line, and
+    with other numbers than those of the confidence."""
+    reasons: Sequence[Reason] | None = None
+    """What alone halves it, or more."""
+
+    def _absent(self) -> Sequence[str]:
+        # The program's JSON has null where it says none, and no such member where it wasn't asked.
+        return [name for name in ("probability", "reasons") if name not in vars(self)]
 
     def _summary(self) -> str:
         return f"gap {self.gap}, {counted(self.members, 'matching')}, {self.matching._summary()}"
@@ -354,6 +373,16 @@ class Places(AboutReference):
     next: str | None = None
     cut: bool | None = asked_for()
     """Whether looking ended before a place that might be among them. None but in the likely order."""
+    none_of_these: int | None = None
+    """How probable it is that none of all places that were looked at is the right one, in millionths. It is None where places have no
+    probability."""
+    map_differs: MapDiffers | None = None
+    """How different the sender's map is, if the confidence says it."""
+    differs: tuple[str, ...] | None = None
+    """The names of the numbers that are others than those of the confidence, so that it says nothing. None but in the likely order."""
+
+    def _absent(self) -> Sequence[str]:
+        return ("none_of_these", "map_differs", "differs") if self.differs is None else ()
 
     def __len__(self) -> int:
         return len(self.places)

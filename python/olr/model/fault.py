@@ -10,6 +10,8 @@ from olr.model.fault_table import ROWS
 OF_THE_MAP = (
     "Header TooMany Shape Field Duplicate UnknownNode ZeroLength Degenerate UnknownLine NotAdjacent OpenFailed ReadFailed"
 ).split()
+OF_CONFIDENCE = " confidence"
+"""How a fault ends that is about the file of a confidence, and not about those of the map."""
 TOO_LARGE = "RegionTooLarge"
 """The fault of a reference on a store whose own region is no map for the program."""
 
@@ -54,7 +56,7 @@ class Fault(ToolError):
 def refusal_of(text: str) -> Fault | MapRefused:
     """What the program says before it ends, as an error: `MapRefused` if it is about the files of the map, else `Fault`."""
     fault = Fault(text)
-    if fault.name in OF_THE_MAP:
+    if fault.name in OF_THE_MAP and not text.endswith(OF_CONFIDENCE):
         return MapRefused(f"olr refuses the map: {fault}: olr-tools check lists all faults")
     return fault
 

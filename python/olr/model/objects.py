@@ -13,6 +13,7 @@ from olr.model.answers import (
     Candidate,
     Candidates,
     Leg,
+    MapDiffers,
     Matching,
     NearLine,
     Page,
@@ -35,6 +36,7 @@ from olr.model.late import Late
 from olr.model.legs_and_lines import LegPaths, Legs, LineOfMap, Lines, OtherPath, ShorterPath
 from olr.model.pieces import Pieces, Place, Spot, Spots
 from olr.model.questions import What
+from olr.model.reasons import Reason
 
 Json = dict[str, Any]
 Made = TypeVar("Made")
@@ -135,6 +137,15 @@ class LegsOfMatching(Late[Leg]):
         return _all_made(Leg, json.loads(text))
 
 
+class Reasons(Late[Reason]):
+    """The reasons of a place."""
+
+    __slots__ = ()
+
+    def _read(self, text: bytes) -> tuple[Reason, ...]:
+        return _all_made(Reason, json.loads(text))
+
+
 class Matchings(Late[Matching]):
     """The matchings of a page."""
 
@@ -155,11 +166,19 @@ def _candidates(found: Json, _: Lists) -> Candidates:
 
 
 def _places(found: Json, lists: Lists) -> Places:
-    listed = tuple(
-        _made(PlaceOfReference, one | {"matching": _matching(one["matching"], lists)})
-        for one in found["places"]
-    )
-    return Places(**_renamed(found, places=listed))
+    found["places"] = tuple([_place(one, lists) for one in found["places"]])
+    if found.get("map_differs") is not None:
+        found["map_differs"] = MapDiffers(**found["map_differs"])
+    if "differs" in found:
+        found["differs"] = tuple(found["differs"])
+    return Places(**found)
+
+
+def _place(found: Json, lists: Lists) -> PlaceOfReference:
+    found["matching"] = _matching(found["matching"], lists)
+    if (reasons := found.get("reasons")) is not None:
+        found["reasons"] = Reasons(lists.texts[reasons], lists.digest) if reasons != [] else ()
+    return _made(PlaceOfReference, found)
 
 
 def _near(found: Json) -> NearLine:
@@ -275,7 +294,7 @@ _MATCHINGS, _NEXT = b'{"matchings":[', b'],"next":'
 _LISTS = re.compile(
     rb"""(\[(?:
         \[[^"]*\]\]  # of pieces or spots: no name is in them
-        |\{"(?:at|greatest|length)":(?:[^]]*\])+?(?<=\}\])  # the points and legs of a matching
+        |\{"(?:at|greatest|length)":(?:[^]]*\])+?(?<=\}\])  # the points and legs of a matching, and reasons
     ))""",
     re.VERBOSE,
 )

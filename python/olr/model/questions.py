@@ -150,14 +150,14 @@ OPTIONS = {
     ),
 }
 """What else a question can be asked with, likewise. The program gets the words of those alone that aren't at their defaults."""
+LIKELY: Mapping[str, Setting] = {"order": "likely", "detail": True}
+"""How the places are asked for that are shown: the likeliest one first, with probabilities, and what speaks for and against them."""
 LIST: Mapping[str, Setting] = {
     "within": NUMBERS["places"]["within"].greatest,
     "most": NUMBERS["places"]["most"].greatest,
-    "order": "likely",
-    "detail": True,
+    **LIKELY,
 }
-"""How the places are asked for that are shown or judged: all of them, up to 100, the likeliest one first. So what is shown of the list doesn't
-depend on its length, unless looking was cut off."""
+"""How all of them are asked for, up to 100."""
 BLANKS = " \t\r\n"
 CURSOR = re.compile("[0-9.:]+(@[0-9a-f]{64})?")
 """What a cursor looks like: of such texts the program says which is one."""
@@ -280,9 +280,9 @@ def defaults_of(what: What) -> dict[str, Setting]:
     return found | {name: it.default for name, it in options_for(what).items()}
 
 
-def listing(settings: Mapping[str, Setting]) -> dict[str, Setting]:
-    """As what `places` are asked with is set, but for all of them."""
-    return {**settings, **LIST}
+def likely(settings: Mapping[str, Setting]) -> dict[str, Setting]:
+    """As what `places` are asked with is set, but the likeliest one first, and in detail."""
+    return {**settings, **LIKELY}
 
 
 def settings_of(what: What, given: Mapping[str, Setting]) -> dict[str, Setting]:

@@ -3,7 +3,7 @@
 import shutil
 from collections import Counter
 from collections.abc import Iterable, Iterator, Mapping, Sequence
-from contextlib import closing, contextmanager
+from contextlib import AbstractContextManager, ExitStack, closing, contextmanager
 from dataclasses import dataclass
 from pathlib import Path
 from socket import gethostname
@@ -13,6 +13,7 @@ from olr.asking.exchange import Asked
 from olr.asking.files import MapFiles
 from olr.asking.patience import PATIENCE
 from olr.asking.processes import Processes
+from olr.asking.program import SHIPPED
 from olr.asking.records import Record
 from olr.errors import ToolError
 from olr.model.fault import TOO_LARGE
@@ -23,7 +24,7 @@ from olr.regions.sharing import groups_of
 from olr.regions.store import Store
 from olr.running.asked_map import AskedMap
 from olr.running.grouping import Group
-from olr.running.identity import same_files, same_program, same_store
+from olr.running.identity import same_confidence, same_files, same_program, same_store
 from olr.running.isolating import isolated
 from olr.running.joining import fault_of
 from olr.running.kept import Kept
@@ -50,6 +51,8 @@ class Job:
     """The digest of all groups."""
     patience: float | None = PATIENCE
     """So many seconds the program may take for a line; None for as long as it takes."""
+    confidence: Path | None = None
+    """The file of a confidence, under the same path on each machine; None for the one that comes with the package there."""
 
     @property
     def what(self) -> What:
@@ -60,6 +63,10 @@ class Job:
     def settings(self) -> Mapping[str, Setting]:
         """Its tolerances, other numbers and options, by their names."""
         return self.question.options
+
+    def same_confidence(self) -> AbstractContextManager[Path | None]:
+        """The file of the confidence on this machine. Raises as the function of that name."""
+        return same_confidence(self.confidence or SHIPPED, self.question.confidence)
 
     def asked(self) -> Asked:
         """What the program is asked."""
@@ -145,8 +152,8 @@ def _answer_together(
 def _answer_on_regions(job: Job, missing: Sequence[Missing], scratch: Path) -> Counter[str]:
     """Writes the parts of groups, which are asked together on regions of a store, and counts their lines. Raises `ToolError`."""
     with same_store(job.map.path, job.question.store) as store:
-        with same_program(job.question.program):
-            answering = _Answering(job, store, scratch)
+        with same_program(job.question.program), job.same_confidence() as confidence:
+            answering = _Answering(job, store, scratch, confidence)
             answering.answer([one for _, group in missing for one in group.records()])
     counts = Counter[str]()
     for part, group in missing:
@@ -157,8 +164,11 @@ def _answer_on_regions(job: Job, missing: Sequence[Missing], scratch: Path) -> C
 def _lines_on_folder(job: Job, group: Group, kept: Kept) -> Iterator[bytes]:
     """The lines of a group, which is asked on the whole map of a folder. Raises `ToolError`, at the end at the latest."""
     try:
-        with same_files(job.map, job.question.store) as files, same_program(job.question.program):
-            yield from isolated(kept.of(files, job.patience), job.asked(), group.records())
+        with ExitStack() as same:
+            files = same.enter_context(same_files(job.map, job.question.store))
+            same.enter_context(same_program(job.question.program))
+            processes = kept.of(files, job.patience, same.enter_context(job.same_confidence()))
+            yield from isolated(processes, job.asked(), group.records())
     except BaseException:
         kept.end()
         raise
@@ -200,8 +210,8 @@ def _scratch_folder(folder: Path | None) -> Iterator[Path]:
 class _Answering:
     """The lines of records, in a file of a scratch folder, in the order in which they were made."""
 
-    def __init__(self, job: Job, store: Store, scratch: Path) -> None:
-        self._job, self._store = job, store
+    def __init__(self, job: Job, store: Store, scratch: Path, confidence: Path | None) -> None:
+        self._job, self._store, self._confidence = job, store, confidence
         self._map, self._file = scratch / "map", scratch / LINES
         self._places: dict[int, tuple[int, int]] = {}
         """Where the line of each record begins in the file, and how long it is, in bytes."""
@@ -234,7 +244,8 @@ class _Answering:
     def _ask(self, records: Sequence[Record], none: set[int], stream: IO[bytes]) -> None:
         """Asks about records on the map that is there, and writes their lines."""
         files = MapFiles.of_folder(self._map)
-        with closing(Processes(files, patience=self._job.patience)) as processes:
+        asked = Processes(files, patience=self._job.patience, confidence=self._confidence)
+        with closing(asked) as processes:
             stream.writelines(isolated(processes, self._job.asked(), records, none))
 
     def _note(self, records: Sequence[Record], begin: int, stream: IO[bytes]) -> None:

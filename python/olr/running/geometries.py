@@ -6,7 +6,6 @@ from pathlib import Path
 from typing import NamedTuple
 
 from olr.client.map_client import Map
-from olr.confidence.judged import Judging
 from olr.matching.chunks import Answered, chunks_of
 from olr.matching.columns import ANSWERS, PIECES
 from olr.matching.writing import (
@@ -38,8 +37,6 @@ class Geometries(NamedTuple):
     """With a row for each piece of a line."""
     where: Where
     inputs: Sequence[Path]
-    judging: Judging = Judging()
-    """By what answers to `places` are judged."""
     messages: MessageFile | None = None
     """Those of the run, if they may have more than their lines say: members that are kept, which are known, or own faults."""
 
@@ -84,7 +81,7 @@ def write_geometries(
         ]
         for part in watched(parts, "parts written as rows", len(parts)):
             answered = _answered(part, None if network is None else network.digest, notes)
-            for chunk in chunks_of(answered, sources, asked.judging):
+            for chunk in chunks_of(answered, sources):
                 cut_off += chunk.cut_off()
                 for output, sink in zip(outputs, sinks):
                     rows = chunk.rows() if output.columns is ANSWERS else chunk.pieces(network)

@@ -1,6 +1,6 @@
-"""Which map and which program the lines of a run come from, and that a machine has just these.
+"""Which map, which program and which confidence the lines of a run come from, and that a machine has just these.
 
-Both are compared when they are first used, and when their file has another stamp than before. And no lines count that were made while
+They are compared when they are first used, and when their file has another stamp than before. And no lines count that were made while
 a stamp changed: what was read then may be of both files.
 """
 
@@ -95,6 +95,21 @@ def same_files(asked: AskedMap, digest: str) -> Iterator[MapFiles]:
             if asked.digest() != digest:
                 raise ToolError(f"the map in {asked.path} is another one than that of the run")
         yield files
+
+
+@contextmanager
+def same_confidence(file: Path, digest: str | None) -> Iterator[Path | None]:
+    """Gives the file of a confidence, which has this digest; None where a run has none. Raises `ToolError` if it can't be read on this
+    machine, if it is another one, and at the end if it changed meanwhile."""
+    if digest is None:
+        yield None
+        return
+    with _here():
+        stamp = Stamp.of(file)
+        if sha256_of(file) != digest:
+            raise ToolError(f"{file} is another confidence than that of the run: put that there")
+    with _unchanged(file, stamp):
+        yield file
 
 
 @contextmanager

@@ -25,7 +25,7 @@ class Part:
 
     | fact | what it has |
     |---|---|
-    | `store`, `program`, `what`, `options` | what the lines were made with |
+    | `store`, `program`, `what`, `options`, `confidence` | what the lines were made with |
     | `group`, `records` | the number of the group, and the digest of its records |
     | `lines`, `bytes`, `sha256` | how many lines there are, how long the file is, and its digest |
     """

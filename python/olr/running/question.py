@@ -29,11 +29,14 @@ class Question:
     ref: str = REF
     key: str = KEY
     base64: Base64 = "plain"
+    confidence: str | None = None
+    """The digest of the file of a confidence by which places have probabilities; None for other questions."""
 
     def of_lines(self) -> dict[str, Any]:
         """What a line depends on besides its record."""
         table = asdict(self)
-        return {name: table[name] for name in ("store", "program", "what", "options")}
+        names = ("store", "program", "what", "options", "confidence")
+        return {name: table[name] for name in names}
 
 
 def all_settings(what: What, given: Mapping[str, Setting]) -> dict[str, Setting]:

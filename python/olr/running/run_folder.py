@@ -43,7 +43,7 @@ RUN, GROUPS, PARTS, FACTS, FAILED = "run.json", "groups", "parts", "facts", "fai
 FOLDERS = GROUPS, PARTS, FACTS
 CALLED = {"per_group": "per-group", "store": "map"}
 """What parts of a question are called that have other names in the folder."""
-VERSION = 3
+VERSION = 4
 """Of the folder."""
 
 

@@ -8,7 +8,7 @@ from typing import TypeVar
 
 from olr.asking.exchange import words_of_process
 from olr.asking.files import MapFiles, Version
-from olr.asking.program import PathLike, find_program
+from olr.asking.program import SHIPPED, PathLike, find_program
 from olr.errors import ANOTHER_MAP, MapRefused
 
 Made = TypeVar("Made")
@@ -17,13 +17,16 @@ Made = TypeVar("Made")
 class Edition:
     """The files of a folder's map, as they were when the first process had read them. What takes time is done in a thread."""
 
-    def __init__(self, folder: Path, program: PathLike | None = None) -> None:
+    def __init__(
+        self, folder: Path, program: PathLike | None = None, confidence: PathLike = SHIPPED
+    ) -> None:
+        """Places have probabilities by the file of a confidence."""
         self.files = MapFiles.of_folder(folder)
-        self.program = find_program(program)
+        self.program, self._confidence = find_program(program), confidence
 
     def words(self) -> list[str]:
         """The words of a process, behind the program."""
-        return words_of_process(self.files)
+        return words_of_process(self.files, self._confidence)
 
     async def found(self) -> Version:
         """The version that is there. Raises `MapRefused` if it isn't that of this edition."""

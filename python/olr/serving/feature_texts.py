@@ -5,7 +5,6 @@ from io import BufferedRandom, TextIOWrapper
 from typing import cast
 
 from olr.asking.records import Answered
-from olr.confidence.judged import Judging
 from olr.errors import ProgramEnded
 from olr.matching import chunks
 from olr.matching.chunks import Chunk
@@ -17,10 +16,9 @@ from olr.messages.message import Message
 from olr.model.answers import Candidates
 from olr.model.fault import Fault
 from olr.model.objects import read_answer
-from olr.model.questions import What
-from olr.serving.chosen import chosen_by
+from olr.model.questions import OfReference, What
 from olr.serving.limits import MIB
-from olr.serving.tasks import FeaturesTask, JudgedBy
+from olr.serving.tasks import FeaturesTask
 
 BEFORE = "\x1e"
 """Stands before each line."""
@@ -32,7 +30,6 @@ TOO_LARGE = Fault("AnswerTooLarge")
 def write(task: FeaturesTask, ground: Ground, file: BufferedRandom) -> None:
     """Writes a collection: a feature for each matching, or for each place that is shown, the likeliest one first; or one without a
     geometry. Raises `ToolError` and `OSError`."""
-    what = cast(What, task.judged_by.asked.what)
     counted: chunks.Counted = None
     if isinstance(task.candidates, Fault):
         counted = task.candidates
@@ -40,32 +37,25 @@ def write(task: FeaturesTask, ground: Ground, file: BufferedRandom) -> None:
         found = read_answer("candidates", task.candidates, None)
         assert isinstance(found, Candidates)
         counted = found
-    answer = read_answer(what, task.answer, None)
-    asked = chunks.Answered(None, answer, counted)
-    rows = Chunk([asked], ground, _judging_of(task.judged_by)).rows()
+    answer = read_answer(task.what, task.answer, None)
+    rows = Chunk([chunks.Answered(None, answer, counted)], ground).rows()
     stream = TextIOWrapper(file, encoding="utf-8", newline="")
-    written = GeoJson(stream, what)
+    written = GeoJson(stream, task.what)
     written.add(rows.values, rows.shapes)
     written.end()
     stream.detach()
 
 
-def lines_of(some: Sequence[Answered], ground: Ground, judged_by: JudgedBy) -> bytes:
+def lines_of(some: Sequence[Answered], ground: Ground, what: OfReference) -> bytes:
     """The features of records, by what the program answered to them. Raises `ToolError`."""
-    what = cast(What, judged_by.asked.what)
     try:
-        answered = [_answered(one, what) for one in some]
+        answered = [_answered(one, cast(What, what)) for one in some]
     except ValueError as error:
         raise ProgramEnded(f"the program wrote what is no answer: {error}") from error
-    rows = Chunk(answered, ground, _judging_of(judged_by)).rows()
+    rows = Chunk(answered, ground).rows()
     front = values_of(IN_FRONT, [answered[number].item for number in rows.answers])
     features = features_of({**front, **rows.values}, rows.shapes)
     return "".join(f"{BEFORE}{feature}\n" for feature in features).encode()
-
-
-def _judging_of(judged_by: JudgedBy) -> Judging:
-    """By what answers are judged: matchings by nothing."""
-    return chosen_by(judged_by).judging if judged_by.asked.what == "places" else Judging()
 
 
 def _answered(one: Answered, what: What) -> chunks.Answered[Message]:

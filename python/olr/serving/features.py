@@ -2,12 +2,12 @@
 
 from contextlib import nullcontext
 from functools import lru_cache
-from typing import IO, NamedTuple
+from typing import IO, NamedTuple, cast
 
 from olr.asking.exchange import Asked
-from olr.model.questions import TOLERANCES
+from olr.model.questions import TOLERANCES, What
 from olr.serving.accepting import MOST_REMEMBERED, weights_of
-from olr.serving.judging import listing_of, shaped
+from olr.serving.wanted import likely_of, shaped
 from olr.serving.limits import PAGE_ALONE
 from olr.serving.makers import Makers
 from olr.serving.queries import Question
@@ -50,15 +50,12 @@ class Features(NamedTuple):
 
     async def _made(self, question: Question) -> IO[bytes]:
         """As `of`."""
-        judged_by = self.makers.judging(question.asked)
-        is_judged = question.asked.what == "places"
-        listed = listing_of(question.asked) if is_judged else question.asked
-        asked = question._replace(asked=shaped(listed))
+        asked = question._replace(asked=shaped(likely_of(question.asked)))
 
         async def ask(asking: Asking) -> IO[bytes]:
             answer = await asking.answer(asked)
             candidates = await asking.answer_or_fault(_candidates(question))
-            task = FeaturesTask(judged_by, answer, candidates)
+            task = FeaturesTask(cast(What, question.asked.what), answer, candidates)
             return await self.makers.made(asking.map(), task)
 
         return await of_one_edition(self.served, ask)

@@ -3,13 +3,15 @@
 import asyncio
 from asyncio import Future
 from collections import Counter
+from functools import partial
 from pathlib import Path
 
 from olr.asking.exchange import Asked, record_about
 from olr.asking.files import Version
+from olr.asking.program import SHIPPED, PathLike
 from olr.model.box import Box
 from olr.serving.edition import Edition
-from olr.serving.judging import text_within
+from olr.serving.wanted import text_within
 from olr.serving.limits import RECORDS_AHEAD, Limits
 from olr.serving.pool import Pool
 from olr.serving.process import Answer
@@ -22,11 +24,13 @@ class FolderMap(Served):
 
     ahead = RECORDS_AHEAD
 
-    def __init__(self, folder: Path, workers: int, limits: Limits) -> None:
+    def __init__(
+        self, folder: Path, workers: int, limits: Limits, confidence: PathLike = SHIPPED
+    ) -> None:
         super().__init__(folder)
         self.map_name = self._name
-        self._folder = folder
-        self.pool = Pool(Edition(folder), workers, limits)
+        self._edition = partial(Edition, folder, confidence=confidence)
+        self.pool = Pool(self._edition(), workers, limits)
         self._watching: "asyncio.Task[None] | None" = None
 
     async def open(self) -> None:
@@ -43,7 +47,7 @@ class FolderMap(Served):
 
     async def read_anew(self) -> None:
         """See `Served`."""
-        await self.pool.renew(Edition(self._folder))
+        await self.pool.renew(self._edition())
 
     async def state(self) -> tuple[bool, bool]:
         """See `Served`. Files aren't looked at: that may take long."""

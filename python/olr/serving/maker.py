@@ -14,7 +14,6 @@ from io import BufferedRandom
 from typing import NoReturn
 
 from olr.asking.ending import end_with, is_left
-from olr.confidence.confidence import Confidence
 from olr.errors import ToolError
 from olr.matching.rows import Ground
 from olr.serving import feature_texts, row_texts, scene_texts
@@ -38,7 +37,6 @@ PAGE = resource.getpagesize()
 def main(_: list[str]) -> int:
     """Forks a process for each socket that comes, until the server has ended. Answers the status."""
     signal.signal(signal.SIGCHLD, signal.SIG_IGN)
-    Confidence.default()
     grounds = Grounds()
     with socket.socket(fileno=sys.stdin.fileno()) as control:
         while True:
@@ -114,6 +112,6 @@ def _make(task: Task, ground: Ground, file: BufferedRandom) -> None:
         file.write(scene_texts.with_surroundings(task))
     elif isinstance(task, LinesTask):
         if task.form == "rows":
-            file.write(row_texts.lines_of(task.some, task.judged_by))
+            file.write(row_texts.lines_of(task))
         else:
-            file.write(feature_texts.lines_of(task.some, ground, task.judged_by))
+            file.write(feature_texts.lines_of(task.some, ground, task.asked.what))

@@ -11,20 +11,17 @@ import socket
 from asyncio.subprocess import DEVNULL, Process
 from contextlib import ExitStack, suppress
 from tempfile import TemporaryFile
-from typing import IO, TYPE_CHECKING, NamedTuple
+from typing import IO, NamedTuple
 
-from olr.asking.exchange import Asked
 from olr.asking.starting import kill_group_of
+from olr.confidence.confidence import Confidence
 from olr.errors import ProgramEnded
 from olr.serving.files import not_kept
 from olr.serving.limits import MIB, MOST_MADE, Limits
 from olr.serving.problems import Problem
 from olr.serving.rooms import Room
 from olr.serving.runs import python_command
-from olr.serving.tasks import MOST_MESSAGE, JudgedBy, MapVersion, Task
-
-if TYPE_CHECKING:
-    from olr.confidence.confidence import Confidence
+from olr.serving.tasks import MOST_MESSAGE, MapVersion, Task
 
 log = logging.getLogger("olr.serving")
 SECONDS_WAITING = 2.0
@@ -36,17 +33,13 @@ MOST_KEPT = MIB
 class Makers:
     """The maker, which is started when it is first needed, and those of its processes that wait for something to make."""
 
-    def __init__(self, limits: Limits, confidence: "Confidence | None" = None) -> None:
-        """`confidence` is by what places are judged: None for that of the package."""
-        self._confidence = confidence
+    def __init__(self, limits: Limits, confidence: Confidence | None = None) -> None:
+        """`confidence` is that of all maps: None for that of the package."""
+        self.confidence = confidence or Confidence.default()
         self._room = Room(limits.time)
         self._maker: "_Maker | None" = None
         self._starting = asyncio.Lock()
         self._idle: "list[_Forked]" = []
-
-    def judging(self, asked: Asked) -> JudgedBy:
-        """By what places are judged where this is asked for."""
-        return JudgedBy(asked, self._confidence)
 
     async def made(self, map: MapVersion, task: Task) -> IO[bytes]:
         """A file with the answer to a task. Where this is cancelled its process ends. Raises `ToolError`: `MapRefused` if the files of the map

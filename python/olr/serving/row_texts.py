@@ -1,36 +1,33 @@
 """The rows of `POST /rows`: a line of JSON for each record, with its likeliest place and how probable that is."""
 
 import json
-from collections.abc import Sequence
 from typing import Any
 
 from olr.asking.records import Answered
-from olr.confidence.judged import Judged, judged
+from olr.confidence.sentences import no_probabilities
 from olr.errors import ProgramEnded
-from olr.matching.columns import rounded, whole
+from olr.matching.columns import share, whole
 from olr.model.answers import Places
 from olr.model.fault import Fault
 from olr.model.objects import read_answer
-from olr.serving.chosen import chosen_by
-from olr.serving.tasks import JudgedBy
+from olr.model.reasons import sentence_of
+from olr.serving.tasks import LinesTask
 
 
-def lines_of(some: Sequence[Answered], judged_by: JudgedBy) -> bytes:
+def lines_of(task: LinesTask) -> bytes:
     """The rows of records, by what the program answered to them. Raises `ToolError`."""
-    chosen = chosen_by(judged_by)
     try:
-        answers = [_answer_of(one) for one in some]
+        answers = [_answer_of(one) for one in task.some]
     except ValueError as error:
         raise ProgramEnded(f"the program wrote what is no answer: {error}") from error
-    judgements = judged(answers, chosen.judging)
     rows = (
         {
             "record": one.record.number,
             "key": one.record.key(),
-            **_row(answer, judgement),
-            "no_probabilities": chosen.note or None,
+            **_row(answer),
+            "no_probabilities": _note(answer, task),
         }
-        for one, answer, judgement in zip(some, answers, judgements)
+        for one, answer in zip(task.some, answers)
     )
     return b"".join(
         json.dumps(row, separators=(",", ":"), ensure_ascii=False).encode() + b"\n" for row in rows
@@ -47,17 +44,25 @@ def _answer_of(one: Answered) -> Places | Fault:
     return answer
 
 
-def _row(answer: Places | Fault, judgement: Judged | None) -> dict[str, Any]:
+def _note(answer: Places | Fault, task: LinesTask) -> str | None:
+    """Why an answer has no probabilities, where it was asked for with others than the numbers of the confidence."""
+    if isinstance(answer, Fault) or not answer.differs:
+        return None
+    return no_probabilities(answer.differs, task.asked.numbers(), task.confidence)
+
+
+def _row(answer: Places | Fault) -> dict[str, Any]:
     """Columns of docs/COLUMNS.md, of the likeliest place, and whether there may be others that weren't looked at."""
-    first = judgement.places[0] if judgement is not None and judgement.places else None
+    found = None if isinstance(answer, Fault) else answer
+    first = found.places[0] if found else None
     return {
-        "verdict": "fault" if judgement is None else judgement.verdict,
-        "probability": None if first is None else rounded(first.probability),
-        "none_of_these": None if judgement is None else rounded(judgement.none_of_these),
-        "reasons": None if first is None else first.reasons or None,
-        "total": None if first is None else first.place.matching.total,
-        "margin": None if judgement is None else judgement.margin,
-        "turns_back": None if first is None else whole(first.turns_back),
-        "cut_off": judgement is not None and judgement.is_cut_off,
+        "verdict": "fault" if found is None else found.verdict,
+        "probability": None if first is None else share(first.probability),
+        "none_of_these": None if found is None else share(found.none_of_these),
+        "reasons": None if first is None else sentence_of(first.reasons),
+        "total": None if first is None else first.matching.total,
+        "margin": None if found is None else found.margin,
+        "turns_back": None if first is None else whole(first.matching.turns_back),
+        "cut_off": found is not None and bool(found.cut),
         "fault": answer.text if isinstance(answer, Fault) else None,
     }

@@ -1,6 +1,6 @@
 """Lines about the records of a body that are made of answers: those of `POST /rows`, as the page's list shows them, and those of GeoJSON.
 
-What the program answered while the lines before were made is judged next: so nothing waits.
+What the program answered while the lines before were made is next: so nothing waits.
 """
 
 from collections.abc import AsyncGenerator, Iterator, Sequence
@@ -11,7 +11,7 @@ from olr.asking.files import Version
 from olr.asking.exchange import Asked
 from olr.asking.records import Answered
 from olr.serving.bodies import Records
-from olr.serving.judging import listing_of, shaped
+from olr.serving.wanted import likely_of, shaped
 from olr.serving.limits import MIB
 from olr.serving.makers import Makers
 from olr.serving.served import Served
@@ -29,14 +29,13 @@ class Rows(NamedTuple):
 
     async def lines(self, form: Form, asked: Asked, body: Records) -> AsyncGenerator[bytes, None]:
         """The lines about the records of a body, in pieces. Raises as `Makers.made` and `Served.batch`."""
-        listed = listing_of(asked) if asked.what == "places" else asked
-        judged_by = self.makers.judging(asked)
-        wanted = shaped(listed) if form == "features" else listed
+        likely = likely_of(asked)
+        wanted = shaped(likely) if form == "features" else likely
         async with aclosing(self.served.batch(wanted, body)) as answered:
             map = MapVersion(self.served.files(), self.served.version() or Version(None, None))
             async for some in answered:
                 for lot in lots_of(some):
-                    task = LinesTask(form, judged_by, lot)
+                    task = LinesTask(form, asked, self.makers.confidence, lot)
                     with await self.makers.made(map, task) as file:
                         made = file.read()
                     yield made

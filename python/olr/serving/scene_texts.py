@@ -3,7 +3,6 @@
 import json
 from typing import TypeVar
 
-from olr.confidence.judged import judged
 from olr.model.answers import Answer, Candidates, Page, Places, Why
 from olr.model.fault import Fault
 from olr.model.legs_and_lines import Lines
@@ -12,7 +11,6 @@ from olr.model.questions import What
 from olr.pages.view.notes import notes_of
 from olr.pages.view.scene import Answered, add_command, first_cursor, scene_of_answers
 from olr.pages.view.surroundings import box_of, lines_drawn
-from olr.serving.chosen import chosen_by
 from olr.serving.tasks import AroundTask, SceneTask
 
 Wanted = TypeVar("Wanted", Candidates, Page, Places, Why)
@@ -21,13 +19,8 @@ Wanted = TypeVar("Wanted", Candidates, Page, Places, Why)
 def text_of(task: SceneTask) -> bytes:
     """A line with the box around a scene and the cursor of its first entry, and the scene of answers. It says why it has no probabilities
     where it has none. Raises `ToolError`."""
-    chosen = chosen_by(task.judged_by)
-    answered = _answered(task)
-    (judgement,) = judged([answered.places], chosen.judging)
-    scene = scene_of_answers(answered, judgement, chosen.judging.confidence)
-    add_command(scene, task.map_name, task.judged_by.asked.numbers())
-    if chosen.note and scene["entries"]:
-        scene["probability"] = [f"{chosen.note[0].upper()}{chosen.note[1:]}."]
+    scene = scene_of_answers(_answered(task), task.confidence, task.numbers)
+    add_command(scene, task.map_name, task.numbers)
     scene["tiles"] = task.tiles
     return b"%b\n%b" % (_json([box_of(scene), first_cursor(scene)]), _json(scene))
 

@@ -8,7 +8,7 @@ from olr.model.box import Box
 from olr.model.fault import Fault
 from olr.model.profiles import PROFILE
 from olr.model.questions import NEAR_OF_PAGES, NUMBERS, TOLERANCES, What, record_text
-from olr.serving.judging import listing_of, shaped
+from olr.serving.wanted import likely_of, shaped
 from olr.serving.limits import Limits
 from olr.serving.makers import Makers
 from olr.serving.queries import Options, Question, asked_of, reference_of
@@ -43,7 +43,8 @@ class Scenes(NamedTuple):
             if not _fits(places, page):
                 why = await asking.answer(self._question("why", options, text))
             task = SceneTask(
-                self.makers.judging(asked),
+                asked.numbers(),
+                self.makers.confidence,
                 text.decode(),
                 said,
                 candidates,
@@ -66,8 +67,7 @@ class Scenes(NamedTuple):
 
     def _question(self, what: What, options: Options, text: bytes) -> Question:
         """A question about a reference, with those of the options that it has, and with shapes."""
-        asked = self._asked(what, options)
-        return Question(shaped(listing_of(asked) if what == "places" else asked), text, None)
+        return Question(shaped(likely_of(self._asked(what, options))), text, None)
 
     def _legs(self, options: Options, text: bytes, cursor: str) -> Question:
         """The question about the legs of a matching, as GeoJSON."""

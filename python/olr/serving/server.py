@@ -9,8 +9,12 @@ import uvloop
 from collections.abc import Mapping, Sequence
 from functools import partial
 from pathlib import Path
-from typing import TYPE_CHECKING, Any, NamedTuple
+from typing import Any, NamedTuple
 
+from olr.asking.exchange import Asked
+from olr.asking.program import SHIPPED
+from olr.confidence.confidence import BAD_CONFIDENCE, SOME_REFERENCE, Confidence, no_confidence
+from olr.model.fault import Fault
 from olr.model.map_folder import store_of
 from olr.serving import logs
 from olr.serving.addresses import Service, Shared, application
@@ -28,9 +32,6 @@ from olr.serving.pages import policy_of
 from olr.serving.peers import Peers
 from olr.serving.served import Served
 from olr.serving.uvicorn_parts import UvicornServer
-
-if TYPE_CHECKING:
-    from olr.confidence.confidence import Confidence
 
 
 class Settings(NamedTuple):
@@ -69,40 +70,45 @@ async def _serve(settings: Settings) -> None:
     asyncio.get_running_loop().add_signal_handler(signal.SIGHUP, lambda: None)
     sockets = sockets_for(settings.workers * len(settings.maps))
     listening = listen(settings.host, settings.port, sockets.backlog)
-    together = Together({name: _served(map, settings) for name, map in settings.maps.items()})
+    confidence = Confidence.of_file(settings.confidence or SHIPPED)
+    served = {name: _served(map, settings, confidence) for name, map in settings.maps.items()}
+    together = Together(served)
     try:
         await together.open()
-        await _answer(settings, together, listening, sockets)
+        for one in served.values():
+            await _require_confidence(one, confidence)
+        await _answer(settings, together, listening, sockets, Makers(settings.limits, confidence))
     finally:
         listening.close()
         await together.close()
 
 
-def _served(map: Path, settings: Settings) -> Served:
+def _served(map: Path, settings: Settings, confidence: Confidence) -> Served:
     """A map."""
     if store_of(map) is not None:
         from olr.serving.store_map import StoreMap
 
-        return StoreMap(map, settings.limits)
-    return FolderMap(map, settings.workers, settings.limits)
+        return StoreMap(map, settings.limits, confidence)
+    return FolderMap(map, settings.workers, settings.limits, confidence)
 
 
-def _confidence(settings: Settings) -> "Confidence | None":
-    """That of a file, which needs numpy: else makers have it alone. Raises `ToolError` if the file is none."""
-    if settings.confidence is None:
-        return None
-    from olr.confidence.confidence import Confidence
-
-    return Confidence.of_file(settings.confidence)
+async def _require_confidence(served: Served, confidence: Confidence) -> None:
+    """Raises `ToolError` if the program says that a confidence is none."""
+    answer = await served.ask(Asked("places"), SOME_REFERENCE.encode())
+    if answer.fault == BAD_CONFIDENCE:
+        raise no_confidence(confidence, Fault(answer.fault))
 
 
 async def _answer(
-    settings: Settings, together: Together, listening: socket.socket, sockets: Sockets
+    settings: Settings,
+    together: Together,
+    listening: socket.socket,
+    sockets: Sockets,
+    makers: Makers,
 ) -> None:
     """Answers what comes, until a signal ends it."""
     port = listening.getsockname()[1]
     maps, meters = together.maps, Meters(together.figures)
-    makers = Makers(settings.limits, _confidence(settings))
     service = Service(
         next(iter(maps.values())),
         settings.limits,

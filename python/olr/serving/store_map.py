@@ -12,14 +12,14 @@ from pathlib import Path
 from olr.asking.exchange import Asked
 from olr.asking.files import Version
 from olr.asking.processes import Line
-from olr.asking.program import find_program
+from olr.asking.program import SHIPPED, PathLike, find_program
 from olr.client.source import FilesSource
 from olr.client.store_source import StoreSource
 from olr.errors import ToolError
 from olr.model.box import Box
 from olr.model.map_folder import store_of
 from olr.regions.store import Store
-from olr.serving.judging import text_within
+from olr.serving.wanted import text_within
 from olr.serving.limits import Limits
 from olr.serving.process import Answer
 from olr.serving.rooms import Room
@@ -35,10 +35,10 @@ class StoreMap(Served):
 
     ahead = 1
 
-    def __init__(self, path: Path, limits: Limits) -> None:
+    def __init__(self, path: Path, limits: Limits, confidence: PathLike = SHIPPED) -> None:
         super().__init__(path)
-        self._path, self._seconds = path, limits.time
-        self._program = find_program()
+        self._path, self._program = path, find_program()
+        self._seconds, self._confidence = limits.time, confidence
         self._source: StoreSource | None = None
         self._asking, self._showing = Room(limits.time, 1), Room(limits.time, MOST_SHOWN)
         self._thread = ThreadPoolExecutor(1, "olr store")
@@ -60,7 +60,8 @@ class StoreMap(Served):
 
     def _open(self) -> None:
         """Opens the store that is there now, in place of the one before. Raises `ToolError`."""
-        made = partial(FilesSource, program=self._program, patience=self._seconds)
+        by = {"patience": self._seconds, "confidence": self._confidence}
+        made = partial(FilesSource, program=self._program, **by)
         before, self._source = self._source, StoreSource(store_of(self._path) or self._path, made)
         if before is not None:
             before.close()

@@ -5,17 +5,16 @@ That one makes answers, one after the other: a message is a file in which there 
 process sends None, or the error for which there is no answer. It ends once the server has closed the socket.
 """
 
-from collections.abc import Sequence
+from collections.abc import Mapping, Sequence
 from pathlib import Path
-from typing import TYPE_CHECKING, Literal, NamedTuple
+from typing import Literal, NamedTuple
 
 from olr.asking.files import Version
 from olr.asking.exchange import Asked
 from olr.asking.records import Answered
+from olr.confidence.confidence import Confidence
 from olr.model.fault import Fault
-
-if TYPE_CHECKING:
-    from olr.confidence.confidence import Confidence
+from olr.model.questions import What
 
 Form = Literal["rows", "features"]
 """Rows of the page's list, or lines of GeoJSON."""
@@ -31,19 +30,10 @@ class MapVersion(NamedTuple):
     version: Version
 
 
-class JudgedBy(NamedTuple):
-    """By what places are judged."""
-
-    asked: Asked
-    """What was asked for: its numbers say what is shown."""
-    confidence: "Confidence | None"
-    """None for the one that comes with the package."""
-
-
 class FeaturesTask(NamedTuple):
     """A collection of features, of an answer to `match` or `places`."""
 
-    judged_by: JudgedBy
+    what: What
     answer: bytes
     candidates: bytes | Fault
 
@@ -51,7 +41,9 @@ class FeaturesTask(NamedTuple):
 class SceneTask(NamedTuple):
     """What the page draws of a reference: a line of JSON with the box around it and the cursor of its first entry, and then the scene."""
 
-    judged_by: JudgedBy
+    numbers: Mapping[str, int]
+    """All tolerances, and the numbers of `places`."""
+    confidence: Confidence
     reference: str
     said: bytes
     """What the reference says."""
@@ -80,7 +72,8 @@ class LinesTask(NamedTuple):
     """Lines about records, by what the program answered to them."""
 
     form: Form
-    judged_by: JudgedBy
+    asked: Asked
+    confidence: Confidence
     some: Sequence[Answered]
 
 

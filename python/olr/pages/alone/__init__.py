@@ -22,7 +22,7 @@ scripts without a document, one behind the other. Names follow those of Python.
 | `exact_json.js`, `numbers.js`, `formats.js` | JSON with long ids, sums and rounding, numbers as texts |
 | `faults.js`, `asked_with.js`, `pieces.js` | `olr.model` |
 | `sources.js` | `olr.model.sources` |
-| `judging.js`, `rows.js` | `olr.confidence`, and rows of a list |
+| `rows.js` | `olr.serving`: rows of a list |
 | `scene.js`, `sentences.js`, `surroundings.js`, `notes.js` | `olr.pages.view` |
 | `lists.js`, `list_*.js`, `openlr_*.js` | `olr.messages`: lists of references in all formats |
 | `features.js` | `olr.matching`: GeoJSON with the columns of tables |

@@ -1,10 +1,10 @@
 "use strict";
 // Features of GeoJSON with the columns of docs/COLUMNS.md, as the server gives them of many references: to the letter.
 //
-//   featureLine(line, judging, sources)      the lines about a record (RFC 8142), each with the sign in front and its end. `line` is that of
-//                                      `olr batch places`, asked with the `longList` of `tables.py`, or of `olr batch match`: with shapes
-//   featuresOfPlaces({ record, key, fault, found, candidates }, sources)   features of an answer that was judged: `found` is what `judged` gives
-//   featuresOfPage({ record, key, fault, page, candidates }, sources)      features of an answer to `match`
+//   featureLine(line, tables, sources)       the lines about a record (RFC 8142), each with the sign in front and its end. `line` is that of
+//                                      `olr batch places`, asked with `likely` of `tables.py`, or of `olr batch match`: with shapes
+//   featuresOfPlaces({ record, key, fault, found, candidates }, tables, sources)   features of an answer to `places`
+//   featuresOfPage({ record, key, fault, page, candidates }, sources)              features of an answer to `match`
 //   featureText(feature)                     a feature as a text
 //
 // Without `record` the features have no columns of a message. `candidates` is how many all points have together, if that is known, and `sources`
@@ -16,28 +16,25 @@ const BEFORE_LINE = "\x1e";
 const FLOATS = new Set("probability none_of_these map_differs map_differs_low map_differs_high ends_m from_m to_m outer_m inner_m".split(" "));
 const NO_PART = { part: null, lines: null, sources: null, names: null, from_m: null, to_m: null, outer_m: null, inner_m: null };
 
-function featureLine(line, judging, sources = null) {
+function featureLine(line, tables, sources = null) {
   const { answer, fault: own, key, record } = exactJson(line);
   const size = line.lastIndexOf(',"fault":') - '{"answer":'.length;
   const fault = own ?? (size > MOST_ANSWER ? "AnswerTooLarge" : null);
   const about = { record, key, fault };
   const isPage = fault === null && answer.matchings !== undefined;
-  const found = fault === null && !isPage ? judged(answer, judging) : null;
-  const features = isPage ? featuresOfPage({ ...about, page: answer }, sources) : featuresOfPlaces({ ...about, found }, sources);
+  const features = isPage ? featuresOfPage({ ...about, page: answer }, sources) : featuresOfPlaces({ ...about, found: answer }, tables, sources);
   return features.map((feature) => `${BEFORE_LINE}${featureText(feature)}\n`).join("");
 }
 
-function featuresOfPlaces({ record, key, fault = null, found = null, candidates = null }, sources = null) {
+function featuresOfPlaces({ record, key, fault = null, found = null, candidates = null }, tables, sources = null) {
   const about = { record, key, candidates, fault };
   if (fault !== null) return [featureOf({ ...about, verdict: "fault" }, sources)];
   const shared = { ...about, verdict: found.verdict, margin: found.margin };
-  if (!found.places.length) return [featureOf(shared, sources)];
-  return found.places.map((place) => {
-    const { gap, matching, members } = place.place;
-    const row = { ...shared, likely: place.likely, rank: place.rank, gap, matching, members };
-    const { probability, ends, turnsBack, reasons } = place;
-    const ofPlace = { probability: shownProbability(probability), ends_m: rounded(ends, 1), turns_back: Number(turnsBack), reasons: reasons || null };
-    return featureOf({ ...row, ...ofPlace, ...(place.likely === 1 ? ofFirst(found) : {}) }, sources);
+  if (!found.places.length) return [featureOf({ ...shared, ...ofFirst(found) }, sources)];
+  return found.places.map(({ gap, matching, members, probability, rank, reasons }, index) => {
+    const row = { ...shared, likely: index + 1, rank, gap, matching, members, probability: shareOf(probability) };
+    const ofPlace = { ends_m: rounded(endsOf(matching), 1), turns_back: Number(matching.turns_back), reasons: reasonsText(reasons, tables) };
+    return featureOf({ ...row, ...ofPlace, ...(index === 0 ? ofFirst(found) : {}) }, sources);
   });
 }
 
@@ -50,13 +47,11 @@ function featuresOfPage({ record, key, fault = null, page = null, candidates = n
   return matchings.map((matching, index) => featureOf(rowOfMatching(matching, index), sources));
 }
 
-const shownProbability = (value) => (value === null || value === undefined ? null : rounded(value, 3));
-
-// What the row of the likeliest place of an answer has of all of them.
-function ofFirst({ noneOfThese, mapDiffers }) {
-  const { value = null, low = null, high = null } = mapDiffers ?? {};
-  const [differs, least, most] = [value, low, high].map(shownProbability);
-  return { none_of_these: shownProbability(noneOfThese), map_differs: differs, map_differs_low: least, map_differs_high: most };
+// What the first row of an answer has of all of its places.
+function ofFirst({ none_of_these: none, map_differs: differs }) {
+  const { value = null, low = null, high = null } = differs ?? {};
+  const [maps, least, most] = [value, low, high].map((thousandths) => thousandths && thousandths / 1000);
+  return { none_of_these: shareOf(none), map_differs: maps, map_differs_low: least, map_differs_high: most };
 }
 
 // A feature with all columns, in their order.

@@ -1,14 +1,13 @@
 """Makes a page that answers by itself, of the map in a folder or a store, or of a part of it."""
 
-import json
 from collections.abc import Mapping
 from pathlib import Path
 from typing import NamedTuple
 
 from olr.asking.files import MapFiles, Version
+from olr.asking.program import SHIPPED
 from olr.client.map_client import Map
-from olr.confidence.choosing import confidence_of
-from olr.confidence.confidence import DEFAULT
+from olr.confidence.choosing import chosen_for
 from olr.errors import MapRefused, ToolError, readable
 from olr.geometry.network import Network
 from olr.model.asked_with import name_for_program
@@ -18,7 +17,8 @@ from olr.pages.alone.module import MODULE, find_module
 from olr.pages.alone.page import Carried, html_of
 from olr.pages.alone.sources import SOURCES, sources_text
 
-ANY_REFERENCE = "CwVF/yN2yRpnBAFUAAgbpwYBAf9kK0Fa"
+CONFIDENCE = "confidence.json"
+"""The name of the file of a confidence in a page."""
 TOO_MANY = "TooMany"
 """The fault of a map that is beyond the limits of the program."""
 
@@ -34,10 +34,9 @@ def made_of(path: Path, confidence: Path | None, tiles: str | None, box: Box | N
     """The page of a map, or of what of it reaches into a box, with probabilities by a file, or by the one that comes with the package.
     Raises `ToolError` if the map can't be read, is too large, or has nothing in the box, or there is no module of the program.
     """
-    confidence_of(confidence)
     find_module()
     with map_to_carry(path, box) as found:
-        _require_accepted(found.folder)
+        _require_accepted(found.folder, confidence)
         lines = Network.read(found.folder).line_id
         files = files_of(found, lines.tolist())
         digest = MapFiles.of_folder(found.folder).found()
@@ -51,17 +50,17 @@ def carried_of(
     """What a page carries for the map of a folder or a store, of which it has some files, with the module and what says how probable places
     are, by a file or by the one that comes with the package. Raises `ToolError` if there is no module.
     """
-    weights = json.loads((confidence or DEFAULT).read_text(encoding="utf-8"))
-    carried = {**files, MODULE: find_module().read_bytes()}
+    weights = (confidence or SHIPPED).read_bytes()
+    carried = {**files, MODULE: find_module().read_bytes(), CONFIDENCE: weights}
     name, folder = path.resolve().name, name_for_program(path)
-    return Carried(name, digest._asdict(), carried, weights, folder=folder)
+    return Carried(name, digest._asdict(), carried, folder=folder)
 
 
-def _require_accepted(folder: Path) -> None:
-    """Raises `ToolError` if the program refuses the map of a folder: it would refuse it in the page too."""
+def _require_accepted(folder: Path, confidence: Path | None) -> None:
+    """Raises `ToolError` if the program refuses the map of a folder, or a confidence: it would refuse it in the page too."""
     try:
-        with Map.of_folder(folder) as asked:
-            asked.candidates(ANY_REFERENCE)
+        with Map.of_folder(folder, confidence=confidence) as asked:
+            chosen_for(asked, {})
     except MapRefused as error:
         if f" {TOO_MANY} " in str(error):
             raise ToolError(f"{folder} is too large for a page: {REMEDY}") from error

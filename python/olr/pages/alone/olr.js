@@ -54,10 +54,11 @@ class Olr {
     })
   }
 
-  // The lines that `olr answer` writes for records on the map that was read, as bytes. Throws `NoMemory`.
-  answer(records) {
+  // The lines that `olr answer` writes for records on the map that was read, as bytes: with the file of a confidence, of which these are the
+  // bytes, or without one where there are none. Throws `NoMemory`.
+  answer(records, confidence) {
     return this.#during((take) => {
-      const input = this.#given(take, records)
+      const input = [...this.#given(take, records), ...this.#given(take, confidence)]
       const rooms = this.#rooms(take)
       for (let size = FIRST_ROOM; ; size *= 8) {
         const lines = this.#answered(input, size, rooms)

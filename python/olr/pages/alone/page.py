@@ -30,9 +30,8 @@ SHARED = (
     "sources.js",
     "faults.js",
     "asked_with.js",
-    "judging.js",
-    "rows.js",
     "sentences.js",
+    "rows.js",
     "surroundings.js",
     "notes.js",
     "scene.js",
@@ -111,9 +110,7 @@ class Carried(NamedTuple):
     digest: Mapping[str, str | None]
     """Of its files."""
     files: Mapping[str, bytes]
-    """Those of the map, what `sources.py` says of its lines, and `olr.wasm`."""
-    confidence: Mapping[str, Any]
-    """The JSON of the file that says how probable places are."""
+    """Those of the map, what `sources.py` says of its lines, `olr.wasm`, and that of a confidence."""
     tiles: str | None = None
     """A URL of tiles with `{z}`, `{x}` and `{y}`: the page loads nothing else."""
     box: Box | None = None
@@ -138,7 +135,6 @@ def html_of(carried: Carried) -> str:
         },
         "questions": _questions(),
         "tables": tables(),
-        "confidence": carried.confidence,
     }
     text = filled(_asset("index.html"), {"data": data_text(data)})
     text = STYLE.sub(lambda found: f"<style>{_asset(found[1])}</style>\n", text)

@@ -1,14 +1,17 @@
 "use strict";
 // The program on one map, which it reads once: its answers as it writes them.
 //
-//   const program = await Program.of(bytes, { "nodes.csv": .., "lines.csv": .. });
+//   const program = await Program.of(bytes, { "nodes.csv": .., "lines.csv": .. }, confidence);
+//
+// `confidence` has the bytes of a file by which places have probabilities: none where there are none.
 //
 // An answer is { text, fault }: its JSON, or the line of a fault.
 class Program {
-  static async of(bytes, files) {
+  static async of(bytes, files, confidence = new Uint8Array()) {
     const program = new Program();
     program.module = await WebAssembly.compile(bytes);
     program.files = Object.fromEntries(Object.entries(files).map(([name, content]) => [`map/${name}`, content]));
+    program.confidence = confidence;
     program.#begin(await Olr.of(program.module));
     return program;
   }
@@ -69,7 +72,7 @@ class Program {
   // An instance that a trap stopped answers no more: the next question has a new one.
   #run(records) {
     try {
-      return this.olr.answer(records);
+      return this.olr.answer(records, this.confidence);
     } catch (error) {
       if (error instanceof Stopped) this.#begin(new Olr(new WebAssembly.Instance(this.module, {})));
       throw error;

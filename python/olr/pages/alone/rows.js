@@ -1,38 +1,31 @@
 "use strict";
 // The rows of the page's list: of each record its likeliest place, and how probable that is.
 //
-//   rowOf(line, judgingBy(confidence, numbers))
+//   rowOf(line, { numbers, confidence, tables })
 //
-// `line` is that of `olr batch places` about a record, asked with the `longList` of `tables.py`. `rowText(row)` is the line of JSON, without its
-// end, that the server gives.
+// `line` is that of `olr batch places` about a record, asked with the numbers and with `likely` of `tables.py`; `confidence` is the JSON of the
+// file by which it was asked. `rowText(row)` is the line of JSON, without its end, that the server gives.
 
-const DIGITS_OF_PROBABILITY = 3;
-
-function rowOf(line, { judging, note }) {
+function rowOf(line, { numbers, confidence, tables }) {
   const { answer, fault, key, record } = exactJson(line);
-  const found = fault === null ? judged(answer, judging) : null;
-  return { record, key, ...columnsOf(found, fault), no_probabilities: note || null };
+  const note = fault === null ? noProbabilitiesText(answer.differs, numbers, confidence) : "";
+  return { record, key, ...columnsOf(answer, fault, tables), no_probabilities: note || null };
 }
 
 // Columns of the likeliest place, and whether there may be others that weren't looked at.
-function columnsOf(found, fault) {
+function columnsOf(found, fault, tables) {
   const first = found?.places[0] ?? null;
   return {
     verdict: found === null ? "fault" : found.verdict,
-    probability: roundedProbability(first && first.probability),
-    none_of_these: roundedProbability(found && found.noneOfThese),
-    reasons: (first && first.reasons) || null,
-    total: first && first.place.matching.total,
+    probability: shareOf(first?.probability),
+    none_of_these: shareOf(found?.none_of_these),
+    reasons: first && reasonsText(first.reasons, tables),
+    total: first && first.matching.total,
     margin: found && found.margin,
-    turns_back: first && Number(first.turnsBack),
-    cut_off: found !== null && found.isCutOff,
+    turns_back: first && Number(first.matching.turns_back),
+    cut_off: found !== null && found.cut,
     fault,
   };
-}
-
-// With the digits that are shown.
-function roundedProbability(probability) {
-  return probability === null ? null : rounded(probability, DIGITS_OF_PROBABILITY);
 }
 
 // Python writes a probability of 1 as 1.0.

@@ -1,19 +1,17 @@
 "use strict";
 // All that the page draws of a reference, as data for `pictureOf`. Positions are [latitude, longitude] in degrees, ids are texts.
 //
-//   const scene = sceneOf({ reference, show, candidates, places, page, why, judgement, confidence, note, numbers, mapName, tiles, tables });
+//   const scene = sceneOf({ reference, show, candidates, places, page, why, confidence, numbers, mapName, tiles, tables });
 //   Object.assign(scene, notesOf(legs, numbers.lowest, tables.near), linesDrawn(lines));
 //
 // The answer to `legs` is about the matching of the first entry, `scene.entries[0].cursor`, and that to `lines` about `boxOf(scene)`.
 //
 // `reference` is its text, and `show` what it says. `candidates`, `places`, `page` (of `match`) and `why` are the program's answers with shapes,
-// as `exactJson` reads them, or else the texts of faults; `places` was asked with the `longList` of `tables`, and `why` is null where it fits
-// somewhere (`fitsSomewhere`). `judgement` is that of the places, as `judging.js` has it, or null if `places` is a fault; by `confidence`, which
-// is null where there are no probabilities: then `note` says why, or is an empty text. `numbers` are all tolerances and the numbers of `places`,
-// by the names of options: what was asked for, not the long list. `mapName` is the name of the map's folder in commands, or null. `tables` are
-// those of `tables.py`.
+// as `exactJson` reads them, or else the texts of faults; `places` was asked with `likely` of `tables`, and `why` is null where it fits somewhere
+// (`fitsSomewhere`). `confidence` is the JSON of the file by which it was asked, and `numbers` are all tolerances and the numbers of `places`, by
+// the names of options. `mapName` is the name of the map's folder in commands, or null. `tables` are those of `tables.py`.
 function sceneOf(given) {
-  const { reference, show, page, why, confidence = null, note = "", numbers, mapName = null, tiles = null, tables } = given;
+  const { reference, show, page, why, numbers, mapName = null, tiles = null, tables } = given;
   const scene = {
     reference: reference.trim(),
     kind: show.kind.replaceAll("-", " "),
@@ -28,11 +26,10 @@ function sceneOf(given) {
     looking: "",
   };
   if (!isFault(given.candidates)) scene.candidates = given.candidates.points.map(rankedCandidates);
-  if (!isFault(given.places) && !isFault(page)) addPlaces(scene, given.judgement, page, confidence);
+  if (!isFault(given.places) && !isFault(page)) addPlaces(scene, given);
   else scene.verdict.text = faultSentence(isFault(given.places) ? given.places : page, tables);
   if ((why ?? null) !== null) scene.why = whyOfScene(why, tables);
-  scene.command = commandText(scene.why === null ? "places" : "why", scene.reference, mapName, { ...numbers, ...tables.longList }, tables);
-  if (note && scene.entries.length) scene.probability = [`${note[0].toUpperCase()}${note.slice(1)}.`];
+  scene.command = commandText(scene.why === null ? "places" : "why", scene.reference, mapName, { ...numbers, ...tables.likely }, tables);
   scene.tiles = tiles;
   return scene;
 }
@@ -49,11 +46,11 @@ function faultSentence(text, tables) {
 }
 
 // The verdict, the probabilities and the entries.
-function addPlaces(scene, judgement, page, confidence) {
-  scene.verdict = { word: judgement.verdict, text: verdictText(judgement.verdict, judgement.margin) };
-  if (confidence !== null && judgement.places.length) scene.probability = probabilityTexts(judgement, confidence);
-  if (judgement.isCutOff) scene.looking = CUT_OFF_TEXT;
-  scene.entries = entriesOf(judgement.places, page);
+function addPlaces(scene, { places: found, page, confidence, numbers, tables }) {
+  scene.verdict = { word: found.verdict, text: verdictText(found.verdict, found.margin) };
+  if (found.places.length) scene.probability = probabilityTexts(found, confidence, numbers);
+  if (found.cut) scene.looking = CUT_OFF_TEXT;
+  scene.entries = entriesOf(found.places, page, tables);
 }
 
 // The points of a reference. The direction at the last one is that back along the road.
@@ -72,20 +69,20 @@ function rankedCandidates(point) {
 }
 
 // The places, the likeliest one first, and then those of the first matchings that don't open one.
-function entriesOf(places, page) {
-  const entries = places.map((one) => {
-    const { matching, members, gap } = one.place;
+function entriesOf(places, page, tables) {
+  const entries = places.map((one, index) => {
+    const { matching, members, gap, reasons } = one;
     return {
       ...entryOf(matching),
-      title: `Place ${one.likely}`,
+      title: `Place ${index + 1}`,
       gap,
       members: members === 1 ? "1 matching" : `${members} matchings`,
       probability: placeProbabilityText(one),
-      facts: placeTexts(one),
-      reasons: one.reasons,
+      facts: placeTexts(one, index + 1),
+      reasons: reasonsText(reasons, tables) ?? "",
     };
   });
-  const openers = new Set(places.map((one) => one.place.matching.cursor));
+  const openers = new Set(places.map((one) => one.matching.cursor));
   page.matchings.forEach((matching, index) => {
     if (openers.has(matching.cursor)) return;
     const gap = matching.total - page.matchings[0].total;

@@ -18,7 +18,7 @@ const VERDICT_TEXTS = {
 // Where looking ended before a place that might be shown.
 const CUT_OFF_TEXT = "Looking was cut off: give a greater --look.";
 // The probability of places that aren't shown, from which on it is said.
-const LEAST_REST = 0.005;
+const LEAST_REST = 5000;
 const CONDITION_TEXTS = { radius: "too far away", bearing: "another direction", class: "another class", end: "no way on from its end" };
 
 // A length in decimetres, such as `246.4 m`.
@@ -66,11 +66,35 @@ function verdictText(verdict, margin) {
 
 // ---- how probable places are
 
-// A probability, such as `0.93`. It is 1 or 0 only if it is so: one that is rounded is said to be above or below.
-function probabilityText(value) {
-  if (value >= 0.995 && value < 1) return "above 0.99";
-  if (value > 0 && value < 0.005) return "below 0.01";
-  return fixed(value, 2);
+const MILLION = 1e6;
+
+// A probability of so many millionths, such as `0.93`. It is 1 or 0 only if it is so: one that is rounded is said to be above or below.
+function probabilityText(millionths) {
+  if (millionths >= 995000 && millionths < MILLION) return "above 0.99";
+  if (millionths > 0 && millionths < 5000) return "below 0.01";
+  return fixed(millionths / MILLION, 2);
+}
+
+// The same as columns have it; null where there is none.
+function shareOf(millionths) {
+  return (millionths ?? null) === null ? null : rounded(millionths / MILLION, 3);
+}
+
+// Why a place is no more probable; null where nothing is said.
+function reasonsText(reasons, { reasons: { texts, none } }) {
+  if ((reasons ?? null) === null) return null;
+  const said = reasons.map(({ kind, at, by }) => {
+    const [text, times, per] = texts[kind];
+    return text.replace("{at}", at).replace("{by}", Math.floor((2 * by * times + per) / (2 * per)));
+  });
+  return said.join("; ") || none;
+}
+
+// Why there are no probabilities; an empty text if there are.
+function noProbabilitiesText(differs, numbers, confidence) {
+  const made = { ...confidence.tolerances, apart: confidence.apart };
+  const others = (differs ?? []).map((name) => `${name} is ${numbers[name]}, not ${made[name]}`).join("; ");
+  return others && `no probabilities: ${others}: make a file with your options by olr-tools calibrate`;
 }
 
 // How probable a place is; an empty text where nothing is said.
@@ -78,22 +102,33 @@ function placeProbabilityText(place) {
   return place.probability === null ? "" : `probability ${probabilityText(place.probability)}`;
 }
 
-// What speaks for and against a place, whether it has a probability or not.
-function placeTexts(place) {
-  const texts = [`points ${fixed(place.ends, 1)} m from the ends of their lines`];
-  if (place.turnsBack) texts.push("turns back");
-  if (place.rank !== place.likely) texts.push(`rank ${place.rank} by penalty`);
+// Decimetres that a point lies from the proper end of its line at most, as it is counted: farther away is no worse.
+const MOST_END = 500;
+
+// How far its points lie from the proper ends of their lines together, in metres.
+function endsOf({ points }) {
+  return sumOf(points.map(({ end }) => Math.min(end, MOST_END))) / 10;
+}
+
+// What speaks for and against a place, whether it has a probability or not. It has this number in the likely order.
+function placeTexts({ matching, rank }, number) {
+  const texts = [`points ${fixed(endsOf(matching), 1)} m from the ends of their lines`];
+  if (matching.turns_back) texts.push("turns back");
+  if (rank !== number) texts.push(`rank ${rank} by penalty`);
   return texts;
 }
 
-// How probable it is that none of the places is the right one, and of which maps that holds.
-function probabilityTexts(judgement, confidence) {
-  const none = judgement.noneOfThese;
+// How probable it is that none of the places is the right one, and of which maps that holds; or why nothing is said. The places were asked for by
+// these numbers.
+function probabilityTexts(found, confidence, numbers) {
+  const note = noProbabilitiesText(found.differs, numbers, confidence);
+  if (note) return [`${note[0].toUpperCase()}${note.slice(1)}.`];
+  const none = found.none_of_these;
   if (none === null) return ["Probabilities are of lines: a point along a line has none."];
   const texts = [`None of these: probability ${probabilityText(none)}.`];
-  const rest = 1 - none - judgement.places.reduce((sum, place) => sum + (place.probability ?? 0), 0);
+  const rest = MILLION - none - sumOf(found.places.map((place) => place.probability));
   if (rest >= LEAST_REST) texts.push(`Others that aren't shown: probability ${probabilityText(rest)}.`);
-  const differs = differsText(confidence);
+  const differs = differsText(found.map_differs, confidence);
   return differs ? [...texts, differs] : texts;
 }
 
@@ -104,11 +139,11 @@ function isFromFeed(confidence) {
   return isTold && (differ ?? null) === null;
 }
 
-// How different the two maps seem, or of how different ones the probabilities are; an empty text if the confidence doesn't say it.
-function differsText(confidence) {
-  const differs = mapDiffersOf(confidence);
+// How different the two maps seem, or of how different ones the probabilities are; an empty text if that isn't said.
+function differsText(differs, confidence) {
   if (differs === null) return "";
-  const number = `${fixed(differs.value, 1)} (${fixed(differs.low, 1)} to ${fixed(differs.high, 1)})`;
+  const [value, low, high] = [differs.value, differs.low, differs.high].map((thousandths) => fixed(thousandths / 1000, 1));
+  const number = `${value} (${low} to ${high})`;
   if (isFromFeed(confidence)) return `The maps seem to differ by ${number}, 1 as another vendor's.`;
   return `The probabilities are those of maps that differ by ${number}, 1 as another vendor's.`;
 }

@@ -15,7 +15,7 @@ const QUESTIONS_OF_PROGRAM = ["candidates", "match", "places", "why"];
 // Addresses whose answers may have more than one piece.
 const LISTS = ["rows", "batch/places"];
 
-// What questions are answered by: { program, sources, questions, tables, confidence, map, tiles }.
+// What questions are answered by: { program, sources, questions, tables, confidence, map, tiles }. The program has the bytes of the confidence.
 let known = null;
 // Why there are none, if the start failed.
 let broken = null;
@@ -24,9 +24,10 @@ const dropped = new Set();
 // ---- the start
 async function begun({ packed, data }) {
   const files = await unpacked(packed);
-  const { "olr.wasm": module, "sources.json": roads = null, ...ofMap } = files;
-  const program = onPart(await Program.of(module, ofMap), data.map.points);
-  const { questions, tables, confidence, map, tiles } = data;
+  const { "olr.wasm": module, "sources.json": roads = null, "confidence.json": weights, ...ofMap } = files;
+  const program = onPart(await Program.of(module, ofMap, weights), data.map.points);
+  const { questions, tables, map, tiles } = data;
+  const confidence = JSON.parse(new TextDecoder().decode(weights));
   return { program, sources: sourcesOf(roads), questions, tables, confidence, map, tiles };
 }
 
@@ -84,23 +85,18 @@ function sceneAt(options) {
   };
   const drawn = (what, others = {}) => ask(what, { ...others, shape: true });
   const show = exactJson(throwing(program.show(text)));
-  const { judging, note } = judgingBy(confidence, numbers);
   const ofPlaces = Object.fromEntries(Object.keys(questions.numbers.places).map((name) => [name, numbers[name]]));
-  const [candidates, places, page] = [drawn("candidates"), drawn("places", listing(ofPlaces)), drawn("match", defaultsOf("match"))];
+  const [candidates, places, page] = [drawn("candidates"), drawn("places", likely(ofPlaces)), drawn("match", defaultsOf("match"))];
   const why = fitsSomewhere(places, page) ? null : drawn("why", defaultsOf("why"));
-  const judgement = typeof places === "string" ? null : judged(places, judging);
-  const scene = sceneOf({
-    reference: ref, show, candidates, places, page, why, judgement, confidence: judging.confidence, note, numbers, mapName: map.folder, tiles,
-    tables,
-  });
+  const scene = sceneOf({ reference: ref, show, candidates, places, page, why, confidence, numbers, mapName: map.folder, tiles, tables });
   const [first = null] = scene.entries;
   const legs = first && ask("legs", { near: tables.near, at: first.cursor, format: "geojson" });
   const lines = exactJson(throwing(program.around(boxOf(scene))));
   return Object.assign(scene, notesOf(isFault(legs) ? null : legs, numbers.lowest, tables.near), linesDrawn(lines));
 }
 
-// As `places` are asked for whose answers are judged.
-const listing = (numbers) => ({ ...numbers, ...known.tables.longList });
+// As places are asked for that are shown.
+const likely = (numbers) => ({ ...numbers, ...known.tables.likely });
 const defaultsOf = (what) => Object.fromEntries(Object.entries(known.questions.numbers[what]).map(([name, number]) => [name, number.default]));
 
 // ---- many
@@ -114,19 +110,18 @@ async function recordsOf(body) {
 async function* answered(body, settings, from) {
   const records = await recordsOf(body);
   for (let begin = from * RECORDS_OF_PIECE; begin < records.length; begin += RECORDS_OF_PIECE) {
-    yield known.program.lines("places", listing(settings), records.slice(begin, begin + RECORDS_OF_PIECE));
+    yield known.program.lines("places", likely(settings), records.slice(begin, begin + RECORDS_OF_PIECE));
   }
 }
 
 async function* rowsOf(body, numbers, from) {
-  const chosen = judgingBy(known.confidence, numbers);
-  for await (const lines of answered(body, numbers, from)) yield lines.map((line) => `${rowText(rowOf(line, chosen))}\n`).join("");
+  const asked = { numbers, confidence: known.confidence, tables: known.tables };
+  for await (const lines of answered(body, numbers, from)) yield lines.map((line) => `${rowText(rowOf(line, asked))}\n`).join("");
 }
 
 async function* featuresOf(body, numbers, from) {
-  const { judging } = judgingBy(known.confidence, numbers);
   for await (const lines of answered(body, { ...numbers, shape: true }, from)) {
-    yield lines.map((line) => featureLine(line, judging, known.sources)).join("");
+    yield lines.map((line) => featureLine(line, known.tables, known.sources)).join("");
   }
 }
 

@@ -9,7 +9,6 @@ from olr.client.map_client import Map
 from olr.confidence.choosing import Chosen
 from olr.confidence.feed import LEAST_REFERENCES
 from olr.confidence.messages import LEAST_CHECKED, start_of_line
-from olr.confidence.shown import Shown
 from olr.errors import ToolError
 from olr.matching.asking import Asked
 from olr.matching.columns import ANSWERS
@@ -41,6 +40,8 @@ NEXT = (
     f"Then save {FILE}, and give it to the command below. It takes {LEAST_CHECKED} checked messages or more: forty decide more about the "
     "level of its probabilities than the whole feed does."
 )
+OF_SHOWN = ("within", "most")
+"""The numbers that say which places are shown, of which trials have no use."""
 MOST_CHECKED = 1_000
 """Pictures of a page."""
 
@@ -71,7 +72,7 @@ class Checking(NamedTuple):
             it for name in given if given[name] != usual[name] for it in (f"--{name}", given[name])
         ]
         words += all_words(
-            {name.removesuffix("_"): numbers[name] for name in numbers if name not in Shown._fields}
+            {name.removesuffix("_"): numbers[name] for name in numbers if name not in OF_SHOWN}
         )
         words += ["--differ", "D"] if lines < LEAST_REFERENCES else []
         return shlex.join([*words, "--checked", FILE, "--out", "confidence.json"])
@@ -86,13 +87,12 @@ def page_to_check(
         raise ToolError(
             f"{store} is a store, and calibrate takes checked answers about a map in a folder: take a part of its file by olr-tools import --bbox"
         )
-    numbers, judging = checking.asking.numbers, checking.sure.judging
-    messages = Asked(asked, given, within=Shown.of(numbers).within)
-    pick = picked(messages, numbers, judging, wanted)
-    found = rows_of(pick.sample, asked, numbers, judging)
+    numbers, sure = checking.asking.numbers, checking.sure
+    pick = picked(Asked(asked, given), numbers, wanted)
+    found = rows_of(pick.sample, asked, numbers, sure.confidence)
     kept = kept_columns(given.kept, ANSWERS)
     count, command = len(pick.sample), checking.command(pick.lines)
-    by = "probability of their likeliest places" if judging.confidence else "order in the file"
+    by = "order in the file" if sure.note else "probability of their likeliest places"
     drawn = f"{count:,} of {pick.possible:,} messages that can be checked: a systematic sample by the {by}, drawn with seed {SEED}"
     few = f"{wanted:,} were wanted: no more can be checked" if count < wanted else ""
     others = others_text("can't be checked: ", pick.others)

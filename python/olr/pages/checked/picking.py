@@ -5,13 +5,12 @@ from collections import Counter
 from collections.abc import Mapping
 from typing import NamedTuple
 
-from olr.confidence.judged import Judged, Judging
 from olr.confidence.messages import LEAST_CHECKED, start_of_line
 from olr.errors import ToolError
 from olr.matching.asking import Asked
-from olr.matching.chunks import Answered, chunks_of
 from olr.messages.message import Message
-from olr.model.questions import listing
+from olr.model.answers import AnswerOrFault, Places
+from olr.model.questions import likely
 from olr.model.reference import read_reference
 from olr.pages.report.sample import SEED, Drawn
 from olr.reservoir import Reservoir
@@ -36,14 +35,11 @@ class Picked(NamedTuple):
     """How many messages have a line reference."""
 
 
-def picked(messages: Asked, numbers: Mapping[str, int], judging: Judging, wanted: int) -> Picked:
-    """Asks where the references of messages are, judges the answers, and picks as many as are wanted. Raises `ToolError`, also if too few
-    can be checked."""
+def picked(messages: Asked, numbers: Mapping[str, int], wanted: int) -> Picked:
+    """Asks where the references of messages are, and picks as many as are wanted. Raises `ToolError`, also if too few can be checked."""
     picking = Picking()
-    answered = (Answered(*one) for one in messages.answered("places", listing(numbers)))
-    for chunk in chunks_of(answered, None, judging):
-        for message, judgement in zip(chunk.items, chunk.judgements):
-            picking.add(message, judgement)
+    for message, answer in messages.answered("places", likely(numbers) | {"most": 1}):
+        picking.add(message, answer)
     return picking.picked(wanted)
 
 
@@ -52,15 +48,15 @@ class Picking:
 
     def __init__(self) -> None:
         self._draws = random.Random(SEED)
-        self._some: Reservoir[tuple[float, Message]] = Reservoir(MOST, self._draws)
+        self._some: Reservoir[tuple[int, Message]] = Reservoir(MOST, self._draws)
         self._possible: Counter[int] = Counter()
         self._others: Counter[str] = Counter()
         self._texts: dict[int, int] = {}
         self._several: set[int] = set()
         self._lines = 0
 
-    def add(self, message: Message, judgement: Judged | None) -> None:
-        """Adds a message, and how the answer about it is judged: None for a fault."""
+    def add(self, message: Message, answer: AnswerOrFault) -> None:
+        """Adds a message, and the answer about its places."""
         reference = read_reference(message.reference)
         if reference is None or reference.kind != "line":
             self._others[NO_LINE] += 1
@@ -72,13 +68,13 @@ class Picking:
         key, text = hash(message.key), hash(message.reference)
         if self._texts.setdefault(key, text) != text:
             self._several.add(key)
-        if judgement is None or not judgement.places:
+        if not isinstance(answer, Places) or not answer.places:
             self._others[NO_PLACE] += 1
         elif start_of_line(message.key) is None:
             self._others[NOT_ONE_LINE] += 1
         else:
             self._possible[key] += 1
-            self._some.add((judgement.places[0].probability or 0.0, message))
+            self._some.add((answer.places[0].probability or 0, message))
 
     def picked(self, wanted: int) -> Picked:
         """A systematic sample of those that can be checked, by the probability of their likeliest places; all of them if there are fewer than

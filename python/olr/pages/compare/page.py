@@ -12,7 +12,7 @@ from olr.comparing.columns import reason_of, remedy_of, rounded
 from olr.comparing.places import Shape, Spot
 from olr.comparing.summary import Summary
 from olr.geometry.agreement import AGREE
-from olr.matching.columns import rounded as probability_shown
+from olr.matching.columns import share
 from olr.matching.tables import NO_COLUMNS, Columns
 from olr.messages.message import Message
 from olr.model.asked_with import command_text, is_for_program
@@ -149,7 +149,7 @@ def _verdict(side: Side) -> str:
 def _probability(side: Side) -> float | None:
     """How probable the likeliest place on a map is."""
     place = side.place()
-    return None if place is None else probability_shown(place.probability)
+    return None if place is None else share(place.probability)
 
 
 def _reason(side: Side) -> str | None:

@@ -4,13 +4,11 @@ from collections.abc import Mapping
 from typing import NamedTuple
 
 from olr.client.map_client import Map
-from olr.confidence.judged import Judging
 from olr.matching.asking import Asked
-from olr.matching.chunks import Answered, chunks_of
 from olr.matching.lacking import Lacking, is_without_place
 from olr.model.answers import Places
 from olr.model.fault import Fault
-from olr.model.questions import listing
+from olr.model.questions import likely
 from olr.pages.report.counting import PlaceCounts
 from olr.pages.report.reasons import ReasonCounts
 from olr.pages.report.sample import Drawn, Sample
@@ -34,26 +32,20 @@ def count(
     asked: Map,
     numbers: Mapping[str, int],
     rows: int,
-    judging: Judging,
     lacking: Lacking,
 ) -> Counted:
-    """Asks where the references of messages are, and why some fit nothing, judges the answers, and counts them. `rows` is how many messages
-    are in the sample at most. Those that fit nowhere are added to `lacking`. Raises `ToolError`."""
+    """Asks where the references of messages are, and why some fit nothing, and counts the answers. `rows` is how many messages are in the
+    sample at most. Those that fit nowhere are added to `lacking`. Raises `ToolError`."""
     places, reasons, sample = PlaceCounts(), ReasonCounts(), Sample(rows)
     kept: list[_Kept] = []
-    answered = (
-        Answered(message, answer)
-        for message, answer in messages.answered("places", listing(numbers))
-    )
-    for chunk in chunks_of(answered, None, judging):
-        for message, answer, judgement in zip(chunk.items, chunk.answers, chunk.judgements):
-            assert isinstance(answer, (Places, Fault))
-            places.add(answer, judgement)
-            sample.add(message, answer)
-            if is_without_place(answer):
-                kept.append(_Kept(message.reference, isinstance(answer, Places)))
-            if len(kept) == CHUNK:
-                _count_reasons(kept, asked, reasons, lacking)
+    for message, answer in messages.answered("places", likely(numbers)):
+        assert isinstance(answer, (Places, Fault))
+        places.add(answer)
+        sample.add(message, answer)
+        if is_without_place(answer):
+            kept.append(_Kept(message.reference, isinstance(answer, Places)))
+        if len(kept) == CHUNK:
+            _count_reasons(kept, asked, reasons, lacking)
     _count_reasons(kept, asked, reasons, lacking)
     return Counted(places, reasons, sample.chosen(), lacking)
 

@@ -4,8 +4,8 @@ from bisect import bisect_right
 from collections import Counter
 
 from olr.confidence.expected import Expected
-from olr.confidence.judged import Judged
-from olr.model.answers import Places
+from olr.confidence.sentences import MILLION
+from olr.model.answers import MapDiffers, Places
 from olr.model.fault import Fault
 
 BINS = 10
@@ -42,7 +42,7 @@ def _range(at: int) -> str:
 
 
 class Probabilities:
-    """Probabilities of likeliest places, counted by bins and added up."""
+    """Probabilities of likeliest places, in millionths, counted by bins and added up."""
 
     def __init__(self) -> None:
         self._counts = [0] * BINS
@@ -50,13 +50,13 @@ class Probabilities:
         self.without = 0
         """So many likeliest places have none."""
 
-    def add(self, probability: float | None) -> None:
+    def add(self, probability: int | None) -> None:
         """Counts one."""
         if probability is None:
             self.without += 1
             return
-        self.expected.add(probability)
-        self._counts[min(int(probability * BINS), BINS - 1)] += 1
+        self.expected.add(probability / MILLION)
+        self._counts[min(probability * BINS // MILLION, BINS - 1)] += 1
 
     def rows(self) -> list[tuple[str, int]]:
         """All bins with their counts, that of the greatest probabilities first."""
@@ -76,7 +76,7 @@ def _bin(at: int) -> str:
 
 
 class PlaceCounts:
-    """Counts of answers to `places`, which were judged."""
+    """Counts of answers to `places` in the likely order."""
 
     def __init__(self) -> None:
         self.verdicts: Counter[str] = Counter()
@@ -95,29 +95,31 @@ class PlaceCounts:
         """So many likeliest places turn back."""
         self.cut_off = 0
         """So many references may have more places: looking was cut off."""
+        self.map_differs: MapDiffers | None = None
+        """How different the sender's map is, as the answers say."""
 
-    def add(self, answer: Places | Fault, judgement: Judged | None) -> None:
-        """Counts an answer, which was judged."""
+    def add(self, answer: Places | Fault) -> None:
+        """Counts an answer."""
         if isinstance(answer, Fault):
             self.verdicts["refused"] += 1
             self.faults[answer.text] += 1
             return
-        assert judgement is not None
-        self.verdicts[judgement.verdict] += 1
-        self.cut_off += judgement.is_cut_off
-        if not judgement.places:
+        self.verdicts[answer.verdict] += 1
+        self.cut_off += bool(answer.cut)
+        self.map_differs = answer.map_differs or self.map_differs
+        if not answer.places:
             return
-        likeliest = judgement.places[0]
-        self.totals.add(likeliest.place.matching.total)
-        self.turning_back += bool(likeliest.turns_back)
+        likeliest = answer.places[0]
+        self.totals.add(likeliest.matching.total)
+        self.turning_back += bool(likeliest.matching.turns_back)
         self.probabilities.add(likeliest.probability)
-        for one in judgement.places:
-            if one.rank > 1:
-                self.gaps.add(one.place.gap)
-        if judgement.margin is None:
+        for one in answer:
+            if one.rank != 1:
+                self.gaps.add(one.gap)
+        if answer.margin is None:
             self.without_margin += 1
         else:
-            self.margins.add(judgement.margin)
+            self.margins.add(answer.margin)
 
     def references(self) -> int:
         """How many there were."""

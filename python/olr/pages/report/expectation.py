@@ -5,7 +5,8 @@ from pathlib import Path
 
 from olr.confidence.choosing import Chosen, cut_off_line
 from olr.confidence.confidence import Confidence
-from olr.confidence.sentences import BY, is_from_feed, range_text
+from olr.confidence.sentences import BY, is_from_feed, range_text, thousandths
+from olr.model.answers import MapDiffers
 from olr.pages.report.counting import PlaceCounts
 
 SHIPPED = "the confidence that comes with olr-tools"
@@ -19,19 +20,18 @@ def name_of(file: Path | None) -> str:
 
 def expectations(counts: PlaceCounts, sure: Chosen, file: Path | None) -> list[str]:
     """The first lines of a summary: none if no place has a probability."""
-    confidence, expected = sure.judging.confidence, counts.probabilities.expected
-    if confidence is None or not expected.count:
+    expected = counts.probabilities.expected
+    if not expected.count:
         return []
-    first = f"{expected.text(confidence.level)}, by the trials of {name_of(file)}"
-    return [first, *_differ(confidence, name_of(file))]
+    first = f"{expected.text(sure.confidence.level)}, by the trials of {name_of(file)}"
+    return [first, *_differ(counts.map_differs, sure.confidence, name_of(file))]
 
 
-def _differ(confidence: Confidence, name: str) -> Iterator[str]:
+def _differ(differs: MapDiffers | None, confidence: Confidence, name: str) -> Iterator[str]:
     """How different the two maps are. Nothing is said if the file doesn't say it."""
-    differs = confidence.map_differs
     if differs is None:
         return
-    number = f"{range_text(differs)}, {BY}"
+    number = f"{range_text(*thousandths(differs))}, {BY}"
     if is_from_feed(confidence):
         yield f"the two maps seem to differ by {number}: {name} says so by the feed that it was made for"
     else:
@@ -57,7 +57,7 @@ def sentence(text: str) -> str:
 
 def about_probabilities(sure: Chosen, file: Path | None) -> str:
     """What the page says of probabilities, or why there are none."""
-    if sure.judging.confidence is None:
+    if sure.note:
         return sentence(sure.note)
     return (
         f"The probability of a place says how often such a place was the right one in the trials that {name_of(file)} was made from. It holds "

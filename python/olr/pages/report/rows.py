@@ -6,8 +6,8 @@ from itertools import islice
 from typing import Any, NamedTuple
 
 from olr.client.map_client import Map
-from olr.confidence.judged import Judged, Judging, judged
-from olr.matching.columns import rounded
+from olr.confidence.confidence import Confidence
+from olr.matching.columns import share
 from olr.model.answers import Why
 from olr.model.fault import Fault
 from olr.model.reference import read_reference
@@ -46,40 +46,27 @@ class Rows(NamedTuple):
 
 
 def rows_of(
-    drawn: Sequence[Drawn], asked: Map, numbers: Mapping[str, int], judging: Judging
+    drawn: Sequence[Drawn], asked: Map, numbers: Mapping[str, int], confidence: Confidence
 ) -> Rows:
-    """Asks about messages, and makes rows of the answers, which are judged. Raises `ToolError`."""
+    """Asks about messages, and makes rows of the answers. Raises `ToolError`."""
     lines = _Lines(asked)
     rows: list[Row] = []
     scenes: list[Scene | None] = []
     shapes: list[Row] = []
     messages = iter(watched(drawn, "references drawn", len(drawn)))
     while chunk := list(islice(messages, CHUNK)):
-        answers = _answers_about(chunk, asked, numbers)
-        made = _scenes(answers, judging)
-        for one, answered, (scene, judgement) in zip(chunk, answers, made):
-            if answered is not None and scene is not None:
+        for one, answered in zip(chunk, _answers_about(chunk, asked, numbers)):
+            scene = None
+            if answered is not None:
+                scene = scene_of_answers(answered, confidence, {**asked.tolerances, **numbers})
                 lines.add(scene)
                 _pack(scene)
                 shapes += _shapes(len(rows), answered, scene)
-            rows.append(_row(one, answered, judgement))
+            rows.append(_row(one, answered))
             scenes.append(scene)
     # What is drawn last is seen.
     shapes.sort(key=lambda shape: ORDER.index(shape["kind"]))
     return Rows(rows, scenes, shapes, *lines.chosen())
-
-
-def _scenes(
-    answers: Sequence[Answered | None], judging: Judging
-) -> list[tuple[Scene | None, Judged | None]]:
-    """The scene of each answer, and how its places are judged; None where a text is no reference."""
-    known = [one for one in answers if one is not None]
-    judgements = judged([one.places for one in known], judging)
-    found = (
-        (scene_of_answers(one, judgement, judging.confidence), judgement)
-        for one, judgement in zip(known, judgements)
-    )
-    return [(None, None) if one is None else next(found) for one in answers]
 
 
 def _answers_about(
@@ -129,28 +116,28 @@ class _Lines:
         return lines, len(self._seen) - len(lines)
 
 
-def _row(drawn: Drawn, answered: Answered | None, judgement: Judged | None) -> Row:
+def _row(drawn: Drawn, answered: Answered | None) -> Row:
     """A row of the table: its numbers are those of the likeliest place. Lengths are in metres."""
     row: Row = {"record": drawn.message.record, "key": drawn.message.key, "verdict": "refused"}
     if answered is None:
         return row | _cause(drawn.fault)
     row["points"] = len(answered.reference.points)
-    if isinstance(answered.places, Fault):
-        return row | _cause(answered.places)
-    assert judgement is not None
-    row |= {"verdict": judgement.verdict, "margin": judgement.margin}
-    if not judgement.places:
+    found = answered.places
+    if isinstance(found, Fault):
+        return row | _cause(found)
+    row |= {"verdict": found.verdict, "margin": found.margin}
+    if not found.places:
         return row | _cause(answered.why)
-    likeliest = judgement.places[0]
-    matching = likeliest.place.matching
+    likeliest = found.places[0]
+    matching = likeliest.matching
     row["total"] = matching.total
     if matching.outer is not None:
         row["length"] = matching.outer.length() / 10
-    if likeliest.turns_back:
+    if matching.turns_back:
         row["turns_back"] = TURNS_BACK
-    if likeliest.probability is not None and judgement.none_of_these is not None:
-        row["probability"] = rounded(likeliest.probability)
-        row["none_of_these"] = rounded(judgement.none_of_these)
+    if likeliest.probability is not None:
+        row["probability"] = share(likeliest.probability)
+        row["none_of_these"] = share(found.none_of_these)
     return row
 
 

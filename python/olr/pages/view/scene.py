@@ -7,13 +7,12 @@ from olr.asking.once import decode
 from olr.client.answering import drawn_legs
 from olr.client.map_client import Map
 from olr.confidence.confidence import Confidence
-from olr.confidence.judged import Judged, JudgedPlace, Judging, judged
-from olr.confidence.shown import Shown
 from olr.model.answers import Candidate, Candidates, Matching, Page, Places, Reference, Why
 from olr.model.asked_with import command_text
 from olr.model.fault import Fault
 from olr.model.pieces import Spot
-from olr.model.questions import NEAR_OF_PAGES, What, listing
+from olr.model.questions import NEAR_OF_PAGES, What, likely
+from olr.model.reasons import sentence_of
 from olr.pages.view import sentences
 from olr.pages.view.notes import notes_of
 from olr.pages.view.paths import path_drawn, spot_drawn
@@ -34,17 +33,15 @@ class Answered(NamedTuple):
     """None where it fits somewhere."""
 
 
-def scene_of(text: str, asked: Map, confidence: Confidence | None = None, **numbers: int) -> Scene:
-    """What a reference says, where it fits and how well; or why it doesn't. With a confidence it says how probable each place is. The
-    numbers are those of `places`. Raises `Fault` if it is no reference, or a number is out of its range, and `MapRefused` if the map's
-    files change meanwhile."""
-    judging = Judging(confidence, Shown.of(numbers))
+def scene_of(text: str, asked: Map, confidence: Confidence, **numbers: int) -> Scene:
+    """What a reference says, where it fits, how well and how probably; or why it doesn't. The confidence is that of the map, and the numbers are
+    those of `places`. Raises `Fault` if it is no reference, or a number is out of its range, and `MapRefused` if the map's files change
+    meanwhile."""
     reference = decode(text, asked.program)
     (answered,) = answers_about([(text, reference)], asked, **numbers)
     if isinstance(answered.why, Fault):
         raise answered.why
-    (judgement,) = judged([answered.places], judging)
-    scene = scene_of_answers(answered, judgement, confidence)
+    scene = scene_of_answers(answered, confidence, {**asked.tolerances, **numbers})
     notes = notes_of(_legs(text, asked, scene), asked.tolerances["lowest"])
     return scene | notes | lines_drawn(lines_around(asked, box_of(scene)))
 
@@ -67,12 +64,12 @@ def first_cursor(scene: Scene) -> str | None:
 def answers_about(
     references: Sequence[tuple[str, Reference]], asked: Map, **numbers: int
 ) -> list[Answered]:
-    """What scenes of references are made from. The numbers are those of `places`: a longer list is asked for, so that what is shown of it
-    doesn't depend on its length. Raises `Fault` for a number that is out of its range, and `MapRefused` if the map's files change
-    meanwhile."""
+    """What scenes of references are made from. The numbers are those of `places`. Raises `Fault` for a number that is out of its range, and
+    `MapRefused` if the map's files change meanwhile."""
     texts = [text for text, _ in references]
     candidates = asked.answers("candidates", texts, shape=True)
-    places: Iterator[Any] = asked.answers("places", texts, **listing(numbers), shape=True)
+    settings: dict[str, Any] = likely(numbers) | {"shape": True}
+    places: Iterator[Any] = asked.answers("places", texts, **settings)
     pages = asked.answers("match", texts, shape=True)
     answers = zip(references, candidates, places, pages, strict=True)
     found = [Answered(*about, one, two, three) for about, one, two, three in answers]
@@ -89,10 +86,10 @@ def fits(answered: Answered) -> bool:
 
 
 def scene_of_answers(
-    answered: Answered, judgement: Judged | None, confidence: Confidence | None = None
+    answered: Answered, confidence: Confidence, numbers: Mapping[str, int]
 ) -> Scene:
-    """The scene of a reference that was asked about, without the lines around. `judgement` is that of its places, by a confidence if there
-    is one."""
+    """The scene of a reference that was asked about, without the lines around. The confidence is that of the map; the numbers are all tolerances
+    and those of `places` that were given."""
     reference, candidates, places, page = answered[1:5]
     scene: Scene = {
         "reference": answered.text.strip(),
@@ -110,16 +107,15 @@ def scene_of_answers(
     if isinstance(candidates, Candidates):
         scene["candidates"] = list(map(_ranked, candidates.points))
     if isinstance(places, Places) and isinstance(page, Page):
-        assert judgement is not None
         scene["verdict"] = {
-            "word": judgement.verdict,
-            "text": sentences.verdict_text(judgement.verdict, judgement.margin),
+            "word": places.verdict,
+            "text": sentences.verdict_text(places.verdict, places.margin),
         }
-        if confidence is not None and judgement.places:
-            scene["probability"] = sentences.probability_texts(judgement, confidence)
-        if judgement.is_cut_off:
+        if places.places:
+            scene["probability"] = sentences.probability_texts(places, confidence, numbers)
+        if places.cut:
             scene["looking"] = sentences.CUT_OFF
-        scene["entries"] = _entries(judgement.places, page)
+        scene["entries"] = _entries(places, page)
     else:
         fault = next(one for one in (places, page) if isinstance(one, Fault))
         scene["verdict"]["text"] = f"{fault.text}: {fault.meaning}."
@@ -129,11 +125,11 @@ def scene_of_answers(
 
 
 def add_command(scene: Scene, map_name: str | None, numbers: Mapping[str, int]) -> None:
-    """Adds the command of the program `olr` that gives the same answer, with all its places: an empty text if there is none, as the
-    program doesn't read the map. The numbers are all tolerances and the numbers of `places`, by the names of the program's options.
+    """Adds the command of the program `olr` that gives the same answer: an empty text if there is none, as the program doesn't read the map.
+    The numbers are all tolerances and the numbers of `places`, by the names of the program's options.
     """
     question: What = "places" if scene["why"] is None else "why"
-    scene["command"] = command_text(question, scene["reference"], map_name, listing(numbers))
+    scene["command"] = command_text(question, scene["reference"], map_name, likely(numbers))
 
 
 def _points(reference: Reference) -> list[Scene]:
@@ -166,21 +162,21 @@ def _ranked(candidates: Sequence[Candidate]) -> list[Scene]:
     ]
 
 
-def _entries(places: Sequence[JudgedPlace], page: Page) -> list[Scene]:
+def _entries(places: Places, page: Page) -> list[Scene]:
     """The places, the likeliest one first, and then those of the first matchings that don't open one."""
     entries = []
-    for one in places:
-        members = one.place.members
-        entry = _entry(one.place.matching) | {
-            "title": f"Place {one.likely}",
-            "gap": one.place.gap,
+    for number, one in enumerate(places, 1):
+        members = one.members
+        entry = _entry(one.matching) | {
+            "title": f"Place {number}",
+            "gap": one.gap,
             "members": "1 matching" if members == 1 else f"{members} matchings",
             "probability": sentences.place_probability_text(one),
-            "facts": sentences.place_texts(one),
-            "reasons": one.reasons,
+            "facts": sentences.place_texts(one, number),
+            "reasons": sentence_of(one.reasons) or "",
         }
         entries.append(entry)
-    openers = {one.place.matching.cursor for one in places}
+    openers = {one.matching.cursor for one in places}
     for number, matching in enumerate(page.matchings, 1):
         if matching.cursor not in openers:
             entry = _entry(matching) | {

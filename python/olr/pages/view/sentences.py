@@ -1,12 +1,22 @@
 """What the page says: a reference, a verdict and reasons in sentences. Lengths are shown in metres."""
 
-from collections.abc import Sequence
+from collections.abc import Mapping, Sequence
 
 from olr.confidence.confidence import Confidence
-from olr.confidence.judged import Judged, JudgedPlace
-from olr.confidence.sentences import differs_text, probability_text
-from olr.confidence.shown import Verdict
-from olr.model.answers import Leg, NearLine, Pair, Reference, ReferencePoint, Remedy, Why, WhyLeg
+from olr.confidence.sentences import MILLION, differs_text, no_probabilities, probability_text
+from olr.geometry.parts import ends_of
+from olr.model.answers import (
+    Leg,
+    NearLine,
+    Pair,
+    PlaceOfReference,
+    Places,
+    Reference,
+    ReferencePoint,
+    Remedy,
+    Why,
+    WhyLeg,
+)
 
 INTERVAL = 58.6
 """Metres in an interval."""
@@ -30,8 +40,8 @@ VERDICTS = {
 }
 CUT_OFF = "Looking was cut off: give a greater --look."
 """Where it ended before a place that might be shown."""
-LEAST_REST = 0.005
-"""The probability of places that aren't shown, from which on it is said."""
+LEAST_REST = 5_000
+"""The probability of places that aren't shown, in millionths, from which on it is said."""
 CONDITIONS = {
     "radius": "too far away",
     "bearing": "another direction",
@@ -68,33 +78,42 @@ def legs_text(legs: Sequence[Leg]) -> str:
     return f"{lengths} m" + (f", which costs {penalty}" if penalty else "")
 
 
-def place_probability_text(place: JudgedPlace) -> str:
+def place_probability_text(place: PlaceOfReference) -> str:
     """How probable a place is; an empty text where nothing is said."""
     if place.probability is None:
         return ""
     return f"probability {probability_text(place.probability)}"
 
 
-def place_texts(place: JudgedPlace) -> list[str]:
-    """What speaks for and against a place, whether it has a probability or not."""
-    texts = [f"points {place.ends:.1f} m from the ends of their lines"]
-    if place.turns_back:
+def place_texts(place: PlaceOfReference, number: int) -> list[str]:
+    """What speaks for and against a place, whether it has a probability or not. It has this number in the likely order."""
+    (ends,) = ends_of([place.matching.points])
+    texts = [f"points {ends:.1f} m from the ends of their lines"]
+    if place.matching.turns_back:
         texts.append("turns back")
-    if place.rank != place.likely:
+    if place.rank != number:
         texts.append(f"rank {place.rank} by penalty")
     return texts
 
 
-def probability_texts(judgement: Judged, confidence: Confidence) -> list[str]:
-    """How probable it is that none of the places is the right one, and of which maps that holds."""
-    none = judgement.none_of_these
+def probability_texts(
+    places: Places, confidence: Confidence, numbers: Mapping[str, int]
+) -> list[str]:
+    """How probable it is that none of the places is the right one, and of which maps that holds; or why nothing is said. The places were asked
+    for by these numbers."""
+    none = places.none_of_these
+    if places.differs is None:
+        return []
+    if places.differs:
+        note = no_probabilities(places.differs, numbers, confidence)
+        return [f"{note[0].upper()}{note[1:]}."]
     if none is None:
         return ["Probabilities are of lines: a point along a line has none."]
     texts = [f"None of these: probability {probability_text(none)}."]
-    rest = 1 - none - sum(one.probability or 0.0 for one in judgement.places)
+    rest = MILLION - none - sum(one.probability or 0 for one in places)
     if rest >= LEAST_REST:
         texts.append(f"Others that aren't shown: probability {probability_text(rest)}.")
-    differs = differs_text(confidence)
+    differs = differs_text(places.map_differs, confidence)
     return [*texts, differs] if differs else texts
 
 
@@ -108,7 +127,7 @@ def offsets_text(reference: Reference) -> str:
     return ", ".join(parts)
 
 
-def verdict_text(verdict: Verdict, margin: int | None) -> str:
+def verdict_text(verdict: str, margin: int | None) -> str:
     """The verdict, and the margin if there is one."""
     text = VERDICTS[verdict]
     if margin is None:

@@ -12,7 +12,7 @@ from olr.model.asked_with import all_of_question, name_for_program
 from olr.outputs import write_whole
 
 with needed_by("olr.view", "geo"):
-    from olr.confidence.choosing import judging_with
+    from olr.confidence.choosing import chosen_for
     from olr.confidence.confidence import Confidence
     from olr.pages.html import require_html
     from olr.pages.view.page import html_of, title_of
@@ -68,8 +68,8 @@ def view(
     that it fits, or why it doesn't.
 
     `ref` is the text of a reference, or an answer that knows its own. `map` is an `olr.Map`, or the path of a folder or store, which is
-    asked as `olr.Map(path)`. The numbers are those of `Map.places`. Probabilities are by the `confidence`, or else by the one that comes with
-    the package, which is for the profile `feed`. The page loads nothing, but for the images of `tiles` if that is given: a URL with
+    asked as `olr.Map(path)`. The numbers are those of `Map.places`. Probabilities are by the `confidence`, or else by that of the map: the one
+    that comes with the package is for the profile `feed`. The page loads nothing, but for the images of `tiles` if that is given: a URL with
     `{z}`, `{x}` and `{y}`.
 
     >>> import olr
@@ -84,9 +84,9 @@ def view(
     text = ref.ref if isinstance(ref, AboutReference) else ref
     if text is None:
         raise TypeError("this answer doesn't know its reference: give the text of it")
-    with opened(map) as asked:
-        sure = judging_with(confidence, asked.tolerances, numbers).judging.confidence
-        scene = scene_of(text, asked, sure, **numbers)
+    with opened(map, confidence) as asked:
+        sure = chosen_for(asked, numbers, confidence is not None)
+        scene = scene_of(text, asked, sure.confidence, **numbers)
         all_numbers = {**asked.tolerances, **all_of_question("places", numbers)}
         add_command(scene, _name_of(asked.files), all_numbers)
     return View(title_of(scene), html_of(scene, tiles))

@@ -1,17 +1,18 @@
-"""Questions as what is made of their answers needs them: for `places` that are judged a long list is asked for, of which a part is shown; and
-what is drawn is asked for with shapes."""
+"""Questions as what is made of their answers needs them: places in the likely order and in detail, and what is drawn with shapes."""
 
 from olr.asking.exchange import Asked
 from olr.model.box import Box
-from olr.model.questions import all_words, box_words, listing
+from olr.model.questions import all_words, box_words, likely
 
 SHAPE = "--shape"
 """The word of what is drawn."""
 
 
-def listing_of(asked: Asked) -> Asked:
-    """What is asked for a long list, where the numbers of a request say what is shown."""
-    return Asked(asked.what, tuple(all_words(listing(asked.numbers()))))
+def likely_of(asked: Asked) -> Asked:
+    """What is asked for `places` that are shown; other questions stay as they are."""
+    if asked.what != "places":
+        return asked
+    return Asked(asked.what, tuple(all_words(likely(asked.numbers()))))
 
 
 def shaped(asked: Asked) -> Asked:
