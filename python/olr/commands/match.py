@@ -114,9 +114,8 @@ def command(
                 messages.write_reasons(asking.numbers, written[0])
             else:
                 second = written[1] if len(written) > 1 else None
-                settings: Mapping[str, Setting] = (
-                    likely(asking.numbers) if places else asking.numbers
-                )
+                settings: Mapping[str, Setting] = asking.numbers
+                settings = likely(settings) if places else settings
                 network = asked.network() if pieces and has_geometries(pieces) else None
                 messages.write_answers(
                     question,
