@@ -31,7 +31,6 @@ from olr.model.questions import NUMBERS  # noqa: E402
 from olr.geometry.agreement import ACROSS, AGREE  # noqa: E402
 from olr.comparing.asking import Comparison  # noqa: E402
 from olr.comparing.places import Limits  # noqa: E402
-from olr.confidence.choosing import judging_for  # noqa: E402
 from olr.counts import Counts  # noqa: E402
 from olr.model.map_folder import read_map, write_map  # noqa: E402
 from olr.messages.message import Message  # noqa: E402
@@ -80,11 +79,10 @@ def maps(scratch):
 def compared(program, old, new, texts):
     """References on two maps, with their likeliest places there."""
     tolerances = tolerances_of(FEED)
-    judging = judging_for(None, tolerances, {}).judging
     options = {"program": program, **as_arguments(tolerances)}
     messages = (Message(number, None, text) for number, text in enumerate(texts, 1))
     with Map.of_folder(old, **options) as before, Map.of_folder(new, **options) as after:
-        for chunk in Comparison(before, after, {}, Limits(ACROSS, APART), judging).chunks(messages):
+        for chunk in Comparison(before, after, {}, Limits(ACROSS, APART)).chunks(messages):
             yield from chunk.references
 
 
@@ -92,7 +90,7 @@ def rows_of(reference):
     """The rows that a reference counts in: it has a place on the first map."""
     place = reference.old.place()
     assert place is not None and place.probability is not None
-    is_sure = place.probability >= SURE
+    is_sure = place.probability >= SURE * 1e6
     yield ROWS[0]
     if reference.agreement is None:
         yield ROWS[3]
@@ -126,7 +124,7 @@ def counted(name, road_map, chosen, scratch):
             for one, reference in zip(drawn, found, strict=True):
                 place = reference.old.place()
                 if place is not None:
-                    is_true = is_right(lengths, one.path, place.place.matching.outer)
+                    is_true = is_right(lengths, one.path, place.matching.outer)
                     for row in rows_of(reference):
                         placed[kind, row] += 1
                         right[kind, row] += is_true

@@ -6,8 +6,6 @@ from collections.abc import Sequence
 from pathlib import Path
 
 from conftest import OF_PROGRAM
-from olr.confidence.confidence import Confidence
-from olr.model.profiles import PROGRAM, tolerances_of
 from olr.tools import run
 from region_maps import EAST, WEST, Drawing, Point, Spot, first_position, text_of
 
@@ -15,7 +13,7 @@ ORIGIN = first_position((0, 0))
 INTERVAL = 18
 """Of a road of 10,000 microdegrees, 1113.2 m."""
 NO_PROBABILITIES = (
-    f"no probabilities: {Confidence.default().others(tolerances_of(PROGRAM), 750)}: "
+    "no probabilities: radius is 100, not 75; bearing is 4, not 6; lowest is 0, not 4; percent is 30, not 15: "
     "make a file with your options by olr-tools calibrate"
 )
 """What a summary says by `OF_PROGRAM`."""

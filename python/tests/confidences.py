@@ -6,9 +6,8 @@ from math import log2
 from pathlib import Path
 from typing import Any
 
-from olr.confidence.confidence import Confidence
+from olr.confidence.confidence import Confidence, Range
 from olr.confidence.contents import text_of
-from olr.confidence.likeness import Range
 from olr.confidence.terms import Terms
 from olr.confidence.weights import ORDER, WEIGHTS
 from olr.model.profiles import PROGRAM, tolerances_of

@@ -16,6 +16,7 @@ from typing import TYPE_CHECKING, NamedTuple
 from browser import ONE_THREAD, Browser
 from drawing import Drawing
 from forked import template
+from olr.asking.program import SHIPPED
 from olr.counts import Counts
 from olr.model.map_folder import write_map
 from olr.model.profiles import DEFAULT_PROFILE, tolerances_of
@@ -42,9 +43,12 @@ ASKED_WITH_PROGRAM = "asked with: radius 100 m, bearing 4 sectors, class 7, lowe
 
 
 def by_default(*words: object) -> list[str]:
-    """Words of the program `olr`, and the tolerances of the default profile that they don't name: by these it says what all that Python asks says."""
+    """Words of the program `olr`, and the tolerances of the default profile that they don't name, with the confidence of the package where they are of
+    likely places: by these it says what all that Python asks says."""
     given = list(map(str, words))
-    usual = {f"--{name}": value for name, value in tolerances_of(DEFAULT_PROFILE).items()}
+    tolerances = tolerances_of(DEFAULT_PROFILE)
+    usual: dict[str, object] = {f"--{name}": value for name, value in tolerances.items()}
+    usual |= {"--confidence": SHIPPED} if "likely" in given else {}
     return given + [
         word for name, value in usual.items() if name not in given for word in (name, str(value))
     ]

@@ -1,4 +1,4 @@
-"""Features of the page that answers by itself: their texts are those of the server's lines of GeoJSON."""
+"""Features and rows of the page that answers by itself: their texts are those of the server's lines."""
 
 import json
 import pytest
@@ -12,14 +12,18 @@ from browser import Browser
 from conftest import TOP, Program
 from feeds import point_along_line
 from olr.asking.records import Answered, Record
-from olr.confidence.confidence import DEFAULT
+from olr.asking import exchange
+from olr.asking.program import SHIPPED
+from olr.confidence.confidence import Confidence
 from olr.geometry.network import Network
 from olr.model.objects import raw_line
 from olr.model.questions import What
+from olr.serving import row_texts
 from olr.serving.feature_texts import lines_of
-from olr.serving.judging import listing_of, shaped
+from olr.pages.alone.tables import tables
 from olr.serving.queries import Options, asked_of
-from olr.serving.tasks import JudgedBy
+from olr.serving.tasks import LinesTask
+from olr.serving.wanted import likely_of, shaped
 
 COUNT = 60
 KIOSK = "KwVGnCN20HPDBwFCATFjT5Y="
@@ -36,7 +40,7 @@ class Asked(NamedTuple):
     """What the program answered to a list."""
 
     network: Network
-    judged_by: JudgedBy
+    kind: exchange.Asked
     lines: Sequence[bytes]
     texts: Sequence[str]
 
@@ -54,22 +58,34 @@ def ask(
 ) -> Asked:
     """Asks the program about references on a map, with the options of an address."""
     kind = asked_of(what, options, LOOK)
-    asked = shaped(listing_of(kind) if what == "places" else kind)
+    words = list(shaped(likely_of(kind)).words)
+    words += ["--confidence", str(SHIPPED)] if what == "places" else []
     list_of = folder / "list.tsv"
     list_of.write_text("".join(f'k{n} "é"\t{text}\n' for n, text in enumerate(texts)))
-    ended = program.run("batch", what, "--map", folder, "--input", list_of, *asked.words)
+    ended = program.run("batch", what, "--map", folder, "--input", list_of, *words)
     lines = ended.stdout.encode().splitlines()
     assert len(lines) == len(texts)
-    return Asked(Network.read(folder), JudgedBy(kind, None), lines, texts)
+    return Asked(Network.read(folder), kind, lines, texts)
 
 
 def lines_in_page(scripts: Scripts, asked: Asked) -> str:
     """The lines of features that the scripts make of the program's."""
     found: str = scripts.value(
-        "(judging => lines.map((line) => featureLine(line, judging)).join(''))(judgingBy(confidence, numbers).judging)",
+        "lines.map((line) => featureLine(line, tables)).join('')",
         lines=[line.decode() for line in asked.lines],
-        confidence=json.loads(DEFAULT.read_text()),
-        numbers=asked.judged_by.asked.numbers(),
+        tables=tables(),
+    )
+    return found
+
+
+def rows_in_page(scripts: Scripts, asked: Asked) -> str:
+    """The rows that the scripts make of them."""
+    found: str = scripts.value(
+        "lines.map((line) => `${rowText(rowOf(line, { numbers, confidence, tables }))}\n`).join('')",
+        lines=[line.decode() for line in asked.lines],
+        numbers=asked.kind.numbers(),
+        confidence=json.loads(SHIPPED.read_text()),
+        tables=tables(),
     )
     return found
 
@@ -109,9 +125,13 @@ def test_places(
     folder, texts = maps(name)
     asked = ask(program, folder, texts, "places", options)
     found = lines_in_page(scripts, asked)
-    wanted = lines_of(asked.answered(), asked.network, asked.judged_by).decode()
+    wanted = lines_of(asked.answered(), asked.network, "places").decode()
     assert found == wanted
     assert ('"probability":0.' in wanted) == ("profile" in options)
+    task = LinesTask("rows", asked.kind, Confidence.default(), asked.answered())
+    rows = row_texts.lines_of(task).decode()
+    assert rows_in_page(scripts, asked) == rows
+    assert ("no probabilities: " in rows) == ("profile" not in options)
     if name == "drawn":
         kinds = {json.loads(text)["properties"]["part"] for text in found.split("\x1e")[1:]}
         assert kinds == {"outer", "point", None}
@@ -125,21 +145,19 @@ def test_matchings(
     folder, texts = maps(name)
     asked = ask(program, folder, texts, "match", {"page": "4"})
     found = lines_in_page(scripts, asked)
-    assert found == lines_of(asked.answered(), asked.network, asked.judged_by).decode()
+    assert found == lines_of(asked.answered(), asked.network, "match").decode()
 
 
 def test_an_answer_that_is_too_large(scripts: Scripts) -> None:
     """Of such a one no lines are made."""
     network = Network.read(TOP / "examples")
-    judged_by = JudgedBy(asked_of("places", {}, LOOK), None)
     for size in ((4 << 20) - 60, (4 << 20) + 1):
-        filled = '{"looked":0,"margin":null,"next":null,"places":[],"verdict":"none"}'
+        filled = '{"cut":false,"looked":0,"margin":null,"next":null,"places":[],"verdict":"none"}'
         answer = filled[:-1] + " " * (size - len(filled)) + "}"
         line = f'{{"answer":{answer},"fault":null,"key":"k","record":7}}'
         one = Answered(Record(7, b"k\tx"), answer.encode(), None)
-        judging = "{ confidence: null, shown: { within: 30, most: 10 } }"
-        found = scripts.value(f"featureLine(line, {judging})", line=line)
-        assert found == lines_of([one], network, judged_by).decode()
+        found = scripts.value("featureLine(line, tables)", line=line, tables=tables())
+        assert found == lines_of([one], network, "places").decode()
 
 
 def test_names_of_lines(scripts: Scripts) -> None:

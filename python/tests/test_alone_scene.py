@@ -15,9 +15,8 @@ from browser import Browser
 from confidences import FEED as TOLD
 from confidences import write_confidence
 from conftest import TOP, Program
-from olr.confidence.confidence import Confidence
-from olr.confidence.contents import text_of as text_of_confidence
-from olr.confidence.likeness import Range
+from olr.asking.program import SHIPPED
+from olr.confidence.confidence import Confidence, Range
 from olr.model.fault import Fault
 from olr.model.objects import raw_line
 from olr.model.questions import NUMBERS, TOLERANCES, What
@@ -25,21 +24,18 @@ from olr.model.reference import NEGATIVE, POSITIVE
 from olr.pages.alone.tables import tables
 from olr.pages.view.scene import fits
 from olr.serving import scene_texts
-from olr.serving.judging import listing_of, shaped
 from olr.serving.queries import asked_of
-from olr.serving.tasks import AroundTask, JudgedBy, SceneTask
+from olr.serving.tasks import AroundTask, SceneTask
+from olr.serving.wanted import likely_of, shaped
 from region_maps import EAST, WEST, Point, hostile_map, hostile_text, text_of
 
 MAKE = """
 cases.map((one) => {
   const read = ({ answer, fault }) => (answer === null ? fault : exactJson(answer));
   const [candidates, places, page, why] = [one.candidates, one.places, one.page, one.why].map(read);
-  const { judging, note } = judgingBy(one.confidence, one.numbers);
-  const judgement = isFault(places) ? null : judged(places, judging);
   const fits = fitsSomewhere(places, page);
-  const answers = { show: exactJson(one.show), candidates, places, page, why: fits ? null : why, judgement };
-  const { confidence } = judging;
-  const scene = sceneOf({ ...one, ...answers, confidence, note, tables });
+  const answers = { show: exactJson(one.show), candidates, places, page, why: fits ? null : why };
+  const scene = sceneOf({ ...one, ...answers, tables });
   const about = { fits, box: boxOf(scene), cursor: scene.entries.length ? scene.entries[0].cursor : null };
   const notes = notesOf(one.legs && exactJson(one.legs), one.numbers.lowest, tables.near);
   return { ...about, scene: Object.assign(scene, notes, linesDrawn(exactJson(one.lines))) };
@@ -62,12 +58,15 @@ class MapAsked(NamedTuple):
     program: Program
     folder: Path
 
-    def lines(self, what: What, options: Mapping[str, str], texts: Sequence[str]) -> list[bytes]:
+    def lines(
+        self, what: What, options: Mapping[str, str], texts: Sequence[str], confidence: Confidence
+    ) -> list[bytes]:
         """What the program answers about references, asked as by the server."""
         names = {"profile", *tables()["tolerances"], *NUMBERS[what]}
         own = {name: value for name, value in options.items() if name in names}
         kind = asked_of(what, own, 1_000_000)
-        words = shaped(listing_of(kind) if what == "places" else kind).words
+        words = list(shaped(likely_of(kind)).words)
+        words += ["--confidence", str(confidence.file)] if what == "places" else []
         records = self.folder / "records.tsv"
         records.write_text("".join(f"{text}\n" for text in texts))
         ended = self.program.run("batch", what, "--map", self.folder, *words, "--input", records)
@@ -85,14 +84,10 @@ class MapAsked(NamedTuple):
         """What the scripts are given for each reference that is one, and the scene of the server."""
         shown = [(text, self.program.run("show", "--format", "json", "--", text)) for text in texts]
         known = [(text, ended.stdout.encode()) for text, ended in shown if ended.returncode == 0]
-        rows = zip(
-            *(self.lines(what, options, [text for text, _ in known]) for what in NUMBERS),
-            strict=True,
-        )
+        asked, sure = [text for text, _ in known], confidence or Confidence.default()
+        rows = zip(*(self.lines(what, options, asked, sure) for what in NUMBERS), strict=True)
         return [
-            self._case(
-                *about, dict(zip(NUMBERS, map(raw_line, row))), options, confidence, map_name
-            )
+            self._case(*about, dict(zip(NUMBERS, map(raw_line, row))), options, sure, map_name)
             for about, row in zip(known, rows, strict=True)
         ]
 
@@ -102,15 +97,15 @@ class MapAsked(NamedTuple):
         said: bytes,
         raw: Mapping[What, Any],
         options: Mapping[str, str],
-        confidence: Confidence | None,
+        confidence: Confidence,
         map_name: str | None,
     ) -> tuple[Json, Json]:
         read = {
             what: one.answer if one.fault is None else Fault(one.fault) for what, one in raw.items()
         }
-        judged_by = JudgedBy(asked_of("places", options, 1_000_000), confidence)
+        numbers = asked_of("places", options, 1_000_000).numbers()
         answers = (text, said, read["candidates"], read["places"], read["match"])
-        task = SceneTask(judged_by, *answers, read["why"], map_name, None)
+        task = SceneTask(numbers, confidence, *answers, read["why"], map_name, None)
         answered = scene_texts._answered(task)
         task = task._replace(why=None) if fits(answered) else task
         given = {
@@ -121,13 +116,12 @@ class MapAsked(NamedTuple):
                 | {"fault": raw[what].fault}
                 for name, what in zip(("candidates", "page", "places", "why"), NUMBERS)
             },
-            "confidence": json.loads(text_of_confidence(confidence or Confidence.default())),
-            "numbers": judged_by.asked.numbers(),
+            "confidence": json.loads((confidence.file or SHIPPED).read_text()),
+            "numbers": numbers,
             "mapName": map_name,
         }
         first, scene = scene_texts.text_of(task).split(b"\n")
         box, cursor = json.loads(first)
-        numbers = judged_by.asked.numbers()
         legs = None if cursor is None else self._legs(text, cursor, numbers)
         lines = self._said("lines", "--box", ",".join(map(str, box)), "--shape")
         around = AroundTask(scene, legs, lines, numbers["lowest"])

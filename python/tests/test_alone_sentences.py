@@ -10,15 +10,28 @@ from alone import Scripts
 from asking import as_json
 from browser import Browser
 from olr.confidence.confidence import Confidence
-from olr.confidence.judged import Judged, JudgedPlace
-from olr.confidence.likeness import Range
 from olr.confidence.sentences import differs_text, probability_text
-from olr.model.answers import Better, Pair, Remedy, Why, WhyLeg, WhyPoint
+from olr.model.answers import (
+    Better,
+    MapDiffers,
+    Matching,
+    Pair,
+    PlaceOfReference,
+    Places,
+    Remedy,
+    Why,
+    WhyLeg,
+    WhyPoint,
+)
 from olr.model.answers import Verdict as WhyVerdict
 from olr.model.asked_with import command_text
 from olr.model.fault import Fault
 from olr.model.fault_table import ROWS
+from olr.model.pieces import Pieces
+from olr.model.profiles import FEED, tolerances_of
 from olr.model.questions import What
+from olr.model.reasons import TEXTS as OF_REASONS
+from olr.model.reasons import Reason, sentence_of
 from olr.pages.alone.tables import tables
 from olr.pages.view import sentences
 
@@ -88,9 +101,9 @@ def test_sentences_by_hand(alone: Scripts) -> None:
     """What no reference of these maps says."""
     for verdict in ("unique", "ambiguous", "open", "none"):
         for margin in (None, 0, 1234):
-            expected = sentences.verdict_text(verdict, margin)  # type: ignore[arg-type]
+            expected = sentences.verdict_text(verdict, margin)
             assert said(alone, "verdictText", verdict, margin) == expected
-    for value in (0.0, 0.004, 0.005, 0.125, 0.135, 0.99, 0.994, 0.995, 0.999, 1.0):
+    for value in (0, 1, 4_999, 5_000, 125_000, 135_000, 990_000, 994_999, 995_000, 1_000_000):
         assert said(alone, "probabilityText", value) == probability_text(value)
     for remedy in (Remedy("bans"), Remedy("radius", "1:1.1", 150), Remedy("class", None, 0)):
         assert said(alone, "remedyText", remedy.__dict__) == sentences.remedy_text(remedy)
@@ -107,46 +120,73 @@ def test_sentences_by_hand(alone: Scripts) -> None:
         assert said(alone, "whyTexts", as_json(why)) == sentences.why_texts(why)
 
 
+def test_reasons(alone: Scripts) -> None:
+    """Of each kind, by numbers that are rounded up and down; and none."""
+    draw = random.Random(4)
+    for kind in OF_REASONS:
+        for by in (0, 1, 4, 5, 14, 15, 16, 45, 449, 450, 451, 10**6, draw.randrange(10**9)):
+            reason = Reason(kind, by, draw.choice([1, 12]))
+            found = said(alone, "reasonsText", [vars(reason)], tables())
+            assert found == sentence_of([reason])
+    both = [Reason("turning_back", 1), Reason("shorter", 1000, 3)]
+    for reasons in (both[:0], both):
+        found = said(alone, "reasonsText", [vars(one) for one in reasons], tables())
+        assert found == sentence_of(reasons)
+    assert said(alone, "reasonsText", None, tables()) is None is sentence_of(None)
+
+
+CONFIDENCE = Confidence(tolerances_of(FEED), 750, {}, None, {})
+AS_JSON: Json = {"tolerances": CONFIDENCE.tolerances, "apart": 750, "about": {}}
+
+
 def test_how_maps_differ(alone: Scripts) -> None:
-    """As far as the file of a confidence says it."""
-    differs = Range(0.05, 0.0, 2.25)
+    """As far as the program says it."""
+    differs = MapDiffers(2250, 0, 50)
     abouts: list[Json] = [{}, {"feed": {}}, {"feed": {"statistics": 1}, "differ": 2}, {"feed": "x"}]
     for about in [*abouts, {"feed": {"statistics": {}}}, {"feed": None, "differ": None}]:
-        of_maps = {name: round(1000 * value) for name, value in differs._asdict().items()}
-        given = {"map_differs": of_maps, "about": about}
-        found = said(alone, "differsText", given)
-        assert found == differs_text(Confidence({}, 0, {}, differs, about))
-    assert said(alone, "differsText", {"map_differs": None, "about": {}}) == ""
+        found = said(alone, "differsText", vars(differs), {"about": about})
+        assert found == differs_text(differs, Confidence({}, 0, {}, None, about))
+    assert said(alone, "differsText", None, {"about": {}}) == ""
+
+
+def texts_of(alone: Scripts, found: Places, numbers: Json) -> list[str]:
+    """What is said of how probable places are, in both ways."""
+    expected = sentences.probability_texts(found, CONFIDENCE, numbers)
+    given = {name: getattr(found, name) for name in ("differs", "none_of_these", "map_differs")}
+    given |= {"places": [{"probability": one.probability} for one in found]}
+    assert said(alone, "probabilityTexts", given, AS_JSON, numbers) == expected
+    return expected
 
 
 @pytest.mark.parametrize(
     ("none", "probabilities", "shown"),
     [
-        (0.25, [0.5, 0.2], True),
-        (0.25, [0.75], False),
-        (0.5, [0.495], True),
-        (0.5, [0.4951], False),
-        (0.001, [0.999], False),
-        (0.1, [], True),
+        (250_000, [500_000, 200_000], True),
+        (250_000, [750_000], False),
+        (500_000, [495_000], True),
+        (500_000, [495_001], False),
+        (1_000, [999_000], False),
+        (100_000, [], True),
     ],
 )
-def test_the_rest(alone: Scripts, none: float, probabilities: list[float], shown: bool) -> None:
+def test_the_rest(alone: Scripts, none: int, probabilities: list[int], shown: bool) -> None:
     """Places that aren't shown have a probability too."""
-    place: Any = None
-    places = [JudgedPlace(place, 1, 1, 0.0, False, value) for value in probabilities]
-    confidence = Confidence({}, 0, {}, None, {})
-    expected = sentences.probability_texts(Judged(places, "unique", None, none), confidence)
-    given = [{"probability": value} for value in probabilities]
-    judgement = {"places": given, "noneOfThese": none}
-    found = said(alone, "probabilityTexts", judgement, {"map_differs": None, "about": {}})
-    assert found == expected
-    assert len(found) == 1 + shown
+    matching = Matching("0:1.1", (), (), Pieces(()), 0)
+    places = [PlaceOfReference(0, matching, 1, probability=value) for value in probabilities]
+    found = Places(1, tuple(places), "unique", none_of_these=none, differs=())
+    assert len(texts_of(alone, found, {})) == 1 + shown
 
 
-def test_points_along_lines_have_no_probability(alone: Scripts) -> None:
-    confidence = Confidence({}, 0, {}, None, {})
-    expected = sentences.probability_texts(Judged((), "unique", None), confidence)
-    assert said(alone, "probabilityTexts", {"places": [], "noneOfThese": None}, {}) == expected
+def test_why_there_is_no_probability(alone: Scripts) -> None:
+    """Of points along lines, and with other numbers than those of the confidence."""
+    found = Places(1, (), "unique", differs=())
+    assert texts_of(alone, found, {}) == [
+        "Probabilities are of lines: a point along a line has none."
+    ]
+    other = Places(1, (), "unique", differs=("radius", "apart"))
+    numbers = {**tolerances_of(FEED), "radius": 80, "apart": 20}
+    (text,) = texts_of(alone, other, numbers)
+    assert text.startswith("No probabilities: radius is 80, not 75; apart is 20, not 750: make")
 
 
 def test_commands(alone: Scripts) -> None:

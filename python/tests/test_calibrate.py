@@ -29,7 +29,7 @@ from olr.confidence.parts import (
     parts_of,
     right_places,
 )
-from olr.confidence.weights import ORDER, WEIGHTS
+from olr.confidence.weights import ORDER, WEIGHTS, differences_of, probabilities
 from olr.counts import Counts
 from olr.errors import ToolError
 from olr.messages.message import Reading
@@ -152,7 +152,8 @@ def feed_of(sender: Path, folder: Path) -> Feed:
         for owner, matching in zip(terms.owners().tolist(), answered.matchings)
     ]
     first = terms.first()
-    told = confidence.of(terms)
+    weights = np.array([float(confidence.weights[name]) for name in WEIGHTS])
+    told = probabilities(weights, differences_of(terms))
     sums = np.add.reduceat(told.of_place, first)
     assert sums + told.of_none == pytest.approx(1)
     right = right_places(terms, are_right) == first
@@ -244,7 +245,7 @@ def test_what_the_command_says(
         for name, weight in WEIGHTS.items()
     ]
     assert len(WEIGHTS) == 9 and shown[-1].startswith("asked with: radius 60 m")
-    assert made.others({**tolerances_of(FEED), "radius": 60}, 300) == ""
+    assert (made.tolerances, made.apart) == ({**tolerances_of(FEED), "radius": 60}, 300)
     about = made.about
     assert (about["references"], about["drawn"], about["seed"], about["right"]) == (
         100,

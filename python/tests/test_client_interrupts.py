@@ -61,12 +61,12 @@ town.close()
 LOCATED = """
 town = olr.Map("examples")
 expected = olr.locate(pandas.Series([second] * 3), map=town)
-real, chunks.judged = chunks.judged, interrupt
+real, chunks.rows_of = chunks.rows_of, interrupt
 try:
     olr.locate(pandas.Series([first] * 600), map=town)
 except KeyboardInterrupt as error:
     leave(error)
-chunks.judged = real
+chunks.rows_of = real
 collect_at(sys.argv[1])
 assert olr.locate(pandas.Series([second] * 3), map=town).equals(expected)
 town.close()

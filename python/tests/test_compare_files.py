@@ -29,9 +29,7 @@ from olr.comparing.asking import CHUNK, Comparison
 from olr.comparing.columns import CHANGES
 from olr.comparing.places import Limits
 from olr.comparing.summary import Summary
-from olr.confidence.confidence import DEFAULT
-from olr.confidence.judged import Judging
-from olr.confidence.shown import Shown
+from olr.asking.program import SHIPPED
 from olr.messages import message_file
 from olr.messages.message import Message, Reading
 from olr.messages.reading import messages_of
@@ -99,7 +97,7 @@ def test_each_row_is_that_of_match(tmp_path: Path, capsys: pytest.CaptureFixture
     capsys.readouterr()
     # The file that comes with the package, named.
     own = tmp_path / "own.json"
-    shutil.copy(DEFAULT, own)
+    shutil.copy(SHIPPED, own)
     assert pairs_of(old, new, messages, *feed, "--confidence", own) == found
     words = ["compare", messages, "--map", old, "--with", new, "--confidence", own]
     for more, said in (
@@ -110,7 +108,7 @@ def test_each_row_is_that_of_match(tmp_path: Path, capsys: pytest.CaptureFixture
         given = [*words, "--out", tmp_path / "other.csv", *more]
         assert run(list(map(str, given))) == 1
         assert said in capsys.readouterr().err
-    assert own.read_bytes() == DEFAULT.read_bytes() and not (tmp_path / "other.csv").exists()
+    assert own.read_bytes() == SHIPPED.read_bytes() and not (tmp_path / "other.csv").exists()
 
 
 def test_looking_that_was_cut_off_is_said(
@@ -248,8 +246,7 @@ def test_no_more_are_held_than_are_asked(program: Program, tmp_path: Path) -> No
 
     seen, summary = 0, Summary()
     with olr.Map(folder, program=program.path) as asked:
-        judging = Judging(None, Shown())
-        comparison = Comparison(asked, asked, {}, Limits(10, 75), judging)
+        comparison = Comparison(asked, asked, {}, Limits(10, 75))
         for chunk in comparison.chunks(messages()):
             seen += len(chunk.references)
             assert len(chunk.references) <= CHUNK and taken <= seen + CHUNK + AHEAD

@@ -10,7 +10,6 @@ from typing import Any
 import olr
 from conftest import TOP
 from olr.comparing.places import Limits, Spot, Stretch, difference, likeliest_places
-from olr.confidence.judged import judged
 from olr.geometry.agreement import agreement
 from olr.geometry.plane import DEGREE, Plane, Segments
 from olr.geometry.stretches import hausdorff, longest_lacking, share_within, within
@@ -340,7 +339,7 @@ def test_a_point_at_either_end_of_its_line() -> None:
             spot=spots,
         )
         answer = Places(1, (PlaceOfReference(0, matching, 1),), "unique")
-        _, (found,) = likeliest_places([answer], judged([answer]), network)
+        _, (found,) = likeliest_places([answer], network)
         assert isinstance(found, Spot)
         assert found.behind.tolist() == network.path([decimetre]).tolist()
         assert found.route.tolist() == network.path(route).tolist()

@@ -12,7 +12,7 @@ from typing import Any
 from browser import Browser
 from compared_maps import NO_PROBABILITIES
 from conftest import ASKED_WITH_PROGRAM, OF_PROGRAM, Program, Tools
-from olr.confidence.confidence import DEFAULT
+from olr.asking.program import SHIPPED
 from olr.regions.making import make_store_of_folder
 from region_maps import EAST, WEST, Drawing, Point, first_position, text_of
 
@@ -175,7 +175,7 @@ def test_probabilities_of_both_maps(tools: Tools, browser: Browser, maps: Path) 
     assert len(found) == 6 and found == {record: wanted[record] for record in found}
     assert sum(one[1] != "" for one in found.values()) == 5
     assert "by the file that comes with olr-tools" in browser.value("document.body.innerText")
-    (maps / "own.json").write_bytes(DEFAULT.read_bytes())
+    (maps / "own.json").write_bytes(SHIPPED.read_bytes())
     page, _ = made(tools, maps, "--profile", "feed", "--confidence", maps / "own.json")
     opened(browser, page)
     assert f"by {maps / 'own.json'}" in browser.value("document.body.innerText")

@@ -19,7 +19,7 @@ from conftest import TOP, Program, Tools
 from feeds import data_of, point_along_line
 from olr.comparing.columns import CHANGES
 from olr.confidence.expected import Expected
-from olr.confidence.likeness import Range
+from olr.confidence.confidence import Range
 from olr.confidence.sentences import probability_text
 from olr.matching.columns import ANSWERS
 from olr.matching.tables import Columns
@@ -27,7 +27,7 @@ from olr.model.answers import AnswerOrFault, Places
 from olr.model.fault import Fault
 from olr.model.map_folder import read_map
 from olr.model.profiles import FEED, PROFILES
-from olr.model.questions import LIST, NUMBERS, What
+from olr.model.questions import LIKELY, NUMBERS, What
 from olr.regions.making import make_store_of_folder
 from olr.tools import run
 from olr.trials.changing import Spreads, changed_points
@@ -152,8 +152,8 @@ def texts_of(rounded: float | None, before: str = "probability ") -> set[str]:
     """What a picture may say of a probability that a table rounds so: it has fewer digits."""
     if rounded is None:
         return {""}
-    nearby = (rounded - 0.0005, rounded, rounded + 0.0005)
-    return {f"{before}{probability_text(min(max(one, 0.0), 1.0))}" for one in nearby}
+    nearby = (round(1e6 * (rounded + off)) for off in (-0.0005, 0, 0.0005))
+    return {f"{before}{probability_text(min(max(one, 0), 1_000_000))}" for one in nearby}
 
 
 def assert_scene(scene: Any, rows: Sequence[Row]) -> None:
@@ -172,11 +172,13 @@ def assert_scene(scene: Any, rows: Sequence[Row]) -> None:
         assert ("turns back" in facts) == bool(row["turns_back"])
         rank = f"rank {row['rank']:.0f} by penalty"
         assert (rank in facts) == (row["rank"] != row["likely"])
-    if rows[0]["none_of_these"] is not None:
+    if not placed:
+        assert scene["probability"] == []
+    elif rows[0]["none_of_these"] is not None:
         none, *_, differ = scene["probability"]
         assert none.rstrip(".") in texts_of(rows[0]["none_of_these"], "None of these: probability ")
         assert differ == DIFFER
-    elif placed:
+    else:
         assert scene["probability"] == [
             "Probabilities are of lines: a point along a line has none."
         ]
@@ -295,10 +297,12 @@ def test_serve(case: Case, server: Server) -> None:
 
 
 def test_python(case: Case, program: Program) -> None:
-    """A table of the long list."""
+    """A table of answers."""
     texts = list(case.texts.values())
-    with olr.Map(case.folder, program=program.path, profile=FEED) as town:
-        places = town.answers("places", texts, shape=True, **LIST)
+    sure = olr.Confidence.of_file(case.confidence)
+    with olr.Map(case.folder, program=program.path, profile=FEED, confidence=sure) as town:
+        settings: dict[str, Any] = {**LIKELY, **SHOWN, "shape": True}
+        places = town.answers("places", texts, **settings)
         answers = [one for one in places if is_place(one)]
         counted = town.answers("candidates", texts)
         table = olr.to_geodataframe(
@@ -306,9 +310,6 @@ def test_python(case: Case, program: Program) -> None:
             town,
             keys=list(case.texts),
             candidates=[one if isinstance(one, olr.Candidates) else None for one in counted],
-            confidence=olr.Confidence.of_file(case.confidence),
-            within=SHOWN["within"],
-            most=SHOWN["most"],
         )
     found = table.drop(columns="geometry").astype(object).to_dict("records")
     rows = by_keys([{name: absent(value) for name, value in row.items()} for row in found])
@@ -412,14 +413,12 @@ def test_locate_by_default(usual: Usual) -> None:
 def test_tables_by_default(what: What, usual: Usual) -> None:
     """All rows of a table of answers, and all pages of references."""
     texts = list(usual.texts.values())
-    long: Mapping[str, Any] = LIST if what == "places" else {}
+    settings: Mapping[str, Any] = LIKELY if what == "places" else {}
     with olr.Map.of_folder(EXAMPLES) as town:
         table = olr.to_geodataframe(
-            [one for one in town.answers(what, texts, shape=True, **long) if is_located(one)],
+            [one for one in town.answers(what, texts, shape=True, **settings) if is_located(one)],
             town,
             keys=list(usual.texts),
-            confidence=olr.Confidence.default() if what == "places" else None,
-            within=NUMBERS["places"]["within"].default if what == "places" else None,
         )
     rows = by_keys(table_rows(table))
     for key, expected in usual.rows[what].items():
@@ -462,15 +461,15 @@ def test_lines_by_default(
     tmp_path: Path,
     monkeypatch: pytest.MonkeyPatch,
 ) -> None:
-    """The answers of a run, of streams, of addresses and of a map, as the program writes them. A run asks for the long list of places."""
+    """The answers of a run, of streams, of addresses and of a map, as the program writes them. A run asks for places in the likely order."""
     monkeypatch.setattr("olr.commands.run.answer_here", answer_all)
     lines = tmp_path / "lines.jsonl"
     words = ["--map", EXAMPLES, "--out", tmp_path / "run", "--join", lines]
     asked = [] if what == "match" else [f"--{what}"]
     messages = EXAMPLES / "messages.tsv"
     assert run(list(map(str, ["run", messages, *words, *asked]))) == 0
-    long = LIST if what == "places" else {}
-    query = "&".join(f"{name}={str(value).lower()}" for name, value in long.items())
+    settings = LIKELY if what == "places" else {}
+    query = "&".join(f"{name}={str(value).lower()}" for name, value in settings.items())
     body = messages.read_text()
     reply = usual_server.get(f"/batch/{what}?{query}", "POST", body, Content_Type="text/plain")
     assert reply.body == lines.read_bytes()

@@ -21,7 +21,6 @@ from olr.confidence.weights import ORDER
 from olr.matching.columns import ANSWERS
 from olr.matching.kept_columns import kept_columns
 from olr.model.answers import about
-from olr.model.questions import LIST, NUMBERS
 from olr.regions.making import make_store_of_folder
 from olr.tools import run
 
@@ -136,20 +135,18 @@ def test_references_for_urls(town: olr.Map) -> None:
 
 
 def test_the_likeliest_place_and_the_first_matching() -> None:
-    """They are the first rows of `to_geodataframe` with the long list, with probabilities and candidates."""
+    """They are the first rows of `to_geodataframe` in the likely order, with probabilities and candidates."""
     texts = [SLOW, BREAKDOWN, ROADWORKS, UNMATCHED, KIOSK]
     town = olr.Map(EXAMPLES / "nodes.csv", EXAMPLES / "lines.csv", profile="feed")
     found = olr.locate(pandas.Series(texts), map=town)
     table = olr.to_geodataframe(
         (
             one
-            for one in town.answers("places", texts, shape=True, **LIST)
+            for one in town.answers("places", texts, order="likely", detail=True, shape=True)
             if isinstance(one, olr.Places)
         ),
         town,
         candidates=town.answers("candidates", texts),
-        confidence=olr.Confidence.default(),
-        within=NUMBERS["places"]["within"].default,
     )
     assert len(table) > len(texts) and table["rank"][table["key"] == 2].tolist()[0] == 2
     first = table.drop_duplicates("key").drop(columns="key").reset_index(drop=True)

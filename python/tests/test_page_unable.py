@@ -6,6 +6,7 @@ from pathlib import Path
 from browser import Browser
 from conftest import TOP
 from olr.pages.alone.making import made_of
+from olr.pages.alone.making import CONFIDENCE
 from olr.pages.alone.module import MODULE
 from olr.pages.alone.page import ABOUT_SERVER, OF_SERVER, Carried, html_of
 from servers import wait_until
@@ -38,7 +39,9 @@ def test_a_browser_that_cannot_run_the_program_is_told_so(
     assert browser.value(SEEN) == []
     files = {name: (TOP / "examples" / name).read_bytes() for name in ("nodes.csv", "lines.csv")}
     unable = tmp_path / "app.html"
-    unable.write_text(html_of(Carried("town", {"network": ""}, {**files, MODULE: b"?"}, {})))
+    unable.write_text(
+        html_of(Carried("town", {"network": ""}, {**files, MODULE: b"?", CONFIDENCE: b"{}"}))
+    )
     open_until(browser, unable, "failed")
     assert browser.value(SEEN) == ["The program in this page doesn't start in this browser"]
 

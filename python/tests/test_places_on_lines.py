@@ -6,7 +6,6 @@ from pathlib import Path
 
 import olr
 from olr.comparing.places import Limits, Spot, Stretch, difference, likeliest_places
-from olr.confidence.judged import judged
 from olr.errors import MapRefused, ToolError
 from olr.geometry.network import middle
 from olr.model.answers import (
@@ -133,6 +132,6 @@ def test_the_direction_of_travel_at_a_point(at: int, lead: tuple[int, int], tmp_
         spot=SpotsOnRoute(here, here, here),
     )
     places = [Places(1, (PlaceOfReference(0, one, 1),), "unique")]
-    _, (shape,) = likeliest_places(places, judged(places), network)
+    _, (shape,) = likeliest_places(places, network)
     assert isinstance(shape, Spot)
     assert (np.diff(shape.behind, axis=0)[0] * 1e7).round().tolist() == [10 * it for it in lead]

@@ -16,7 +16,7 @@ from confidences import FEED, OF_NONE, write_confidence
 from conftest import OF_PROGRAM, REFERENCE, TOP, Program
 from exact_paths import LineGraph, drawn_references
 from feeds import MARKUP, Feed, data_of, jq, make_feed, tables_of
-from olr.confidence.likeness import Range
+from olr.confidence.confidence import Range
 from olr.confidence.weights import ORDER
 from olr.model.map_folder import read_map
 from olr.regions.making import make_store_of_folder

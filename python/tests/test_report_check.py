@@ -13,10 +13,11 @@ from checked_feed import KEYS, READ, check, make_place
 from conftest import REFERENCE, TOP, Program
 from feeds import data_of, point_along_line
 from olr.client.map_client import Map
-from olr.confidence.judged import Judged, JudgedPlace
 from olr.confidence.messages import read_checked, start_of_line
 from olr.errors import ToolError
 from olr.messages.message import Message
+from olr.model.answers import Matching, PlaceOfReference, Places
+from olr.model.pieces import Pieces
 from olr.pages.checked import picking
 from olr.pages.checked.picking import Picked, Picking
 from olr.regions.making import make_store_of_folder
@@ -40,19 +41,19 @@ def environment(program: Program) -> Any:
 # ---- which messages
 
 
-def judged(probability: float | None) -> Judged:
-    """An answer whose likeliest place has a probability."""
-    place: Any = None
-    return Judged([JudgedPlace(place, 1, 1, 0.0, False, probability)], "unique", None)
+def answer_with(probability: float | None) -> Places:
+    """An answer whose likeliest place has a probability; for -1 one without a place."""
+    matching = Matching("0:1.1", (), (), Pieces(()), 0)
+    millionths = None if probability is None else round(1e6 * probability)
+    places = (PlaceOfReference(0, matching, 1, probability=millionths),)
+    return Places(1, places if probability != -1 else (), "unique")
 
 
 def pick(messages: Sequence[tuple[str | None, str, float | None]], wanted: int) -> Picked:
     """Those that are picked of messages: each a key, a reference, and the probability of its likeliest place, -1 for none."""
     made = Picking()
     for record, (key, reference, probability) in enumerate(messages, 1):
-        made.add(
-            Message(record, key, reference), None if probability == -1 else judged(probability)
-        )
+        made.add(Message(record, key, reference), answer_with(probability))
     return made.picked(wanted)
 
 

@@ -25,9 +25,10 @@ def test_more_lines_than_a_page_has(
 
 
 @pytest.mark.parametrize(
-    "probability, at", [(1.0, 0), (0.95, 0), (0.9, 0), (0.89, 1), (0.05, 9), (0.0, 9)]
+    "probability, at",
+    [(1_000_000, 0), (950_000, 0), (900_000, 0), (899_999, 1), (50_000, 9), (0, 9)],
 )
-def test_bins_of_probabilities(probability: float, at: int) -> None:
+def test_bins_of_probabilities(probability: int, at: int) -> None:
     """The first one is that of the greatest, with 1."""
     counts = Probabilities()
     counts.add(probability)

@@ -13,7 +13,7 @@ from browser import Browser
 from confidences import FEED, write_confidence
 from conftest import OF_PROGRAM, Program, Tools
 from feeds import MARKUP, Feed, data_of, make_feed
-from olr.confidence.likeness import Range
+from olr.confidence.confidence import Range
 from olr.tools import run
 
 NUMBERS = ["--within", "200", "--look", "20", *OF_PROGRAM]

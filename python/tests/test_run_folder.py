@@ -105,9 +105,9 @@ def test_a_file_that_changes_while_it_is_asked(begun: Begun, tmp_path: Path) -> 
     """The lines that were made count for nothing."""
 
     class Changing(Kept):
-        def of(self, files, patience):  # type: ignore[no-untyped-def]
+        def of(self, files, *others):  # type: ignore[no-untyped-def]
             os.utime(files.bans)
-            return super().of(files, patience)
+            return super().of(files, *others)
 
     kept = Changing()
     with pytest.raises(GroupsFailed, match="bans.csv changed while it was used: go on by --resume"):

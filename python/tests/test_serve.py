@@ -221,13 +221,12 @@ def roomy(
 @pytest.mark.parametrize("tolerances", [{}, {"radius": 70}])
 def test_scenes(tolerances: dict[str, Any], roomy: Server, drawn: Path, texts: list[str]) -> None:
     """They are those that `olr-tools view` draws."""
-    confidence = None if tolerances else olr.Confidence.default()
     probable = 0
     with olr.Map(drawn, profile="feed", **tolerances) as asked:
         for text in [text for text in texts[:12] if text.isascii()]:
             reply = roomy.get(path_of("scene", text, **tolerances, most=3))
             try:
-                expected = scene_of(text, asked, confidence, most=3)
+                expected = scene_of(text, asked, most=3)
             except olr.Fault as fault:
                 assert reply.problem()[1] == fault.name
             else:
@@ -235,9 +234,8 @@ def test_scenes(tolerances: dict[str, Any], roomy: Server, drawn: Path, texts: l
                 assert found.pop("tiles") is None
                 assert found.pop("command").startswith("olr ") and expected.pop("command") == ""
                 if tolerances and expected["entries"]:
-                    (why,) = found.pop("probability")
+                    (why,) = found["probability"]
                     assert why.startswith("No probabilities: radius is 70, not ")
-                    assert expected.pop("probability") == []
                 assert found == json.loads(json.dumps(expected))
                 probable += any(entry["probability"] for entry in found["entries"])
     assert (probable > 4) == (not tolerances)

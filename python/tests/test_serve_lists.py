@@ -7,14 +7,11 @@ from collections import Counter
 from pathlib import Path
 from typing import Any
 
-import olr
 from asking import batch_of, draw_map, draw_references, likeliest_of
 from bad_programs import bad_program
 from browser import Browser
 from conftest import OF_PROGRAM, Program, Tools
 from olr.messages.reading import read_messages
-from olr.model.profiles import PROGRAM, tolerances_of
-from olr.model.questions import NUMBERS
 from page_of_server import (
     AS_PROGRAM,
     KEY,
@@ -111,10 +108,8 @@ def test_options_ask_a_list_anew(page: Page) -> None:
     page.browser.press("Enter", "\r")
     page.wait(f"{SHOWN}[3].cells[{VERDICT}].textContent === 'unique'")
     page.wait("document.querySelector('#list').dataset.state === 'done'")
-    asked = tolerances_of(PROGRAM) | {"lowest": 2}
-    others = olr.Confidence.default().others(asked, NUMBERS["places"]["apart"].default)
+    others = "radius is 100, not 75; bearing is 4, not 6; lowest is 2, not 4; percent is 30, not 15"
     said = f"No probabilities: {others}: make a file with your options by olr-tools calibrate."
-    assert others.startswith("radius is 100, not ")
     page.settle()
     assert said in page.text("#progress") and said in page.text("#probability")
     assert {*page.column(PROBABILITY), *page.column(NONE_OF_THESE)} == {""}

@@ -37,8 +37,7 @@ from olr.serving.ground import Grounds
 from olr.serving.limits import Limits
 from olr.serving.makers import Makers, _Maker
 from olr.serving.problems import Problem
-from olr.serving.queries import asked_of
-from olr.serving.tasks import FeaturesTask, JudgedBy, MapVersion
+from olr.serving.tasks import FeaturesTask, MapVersion
 from servers import children_of, is_running, path_of, serving, started, wait_until
 from test_run_disks import Disk, disk
 
@@ -85,7 +84,7 @@ def map(drawn: Path) -> MapVersion:
 
 def task_of(answer: bytes = PAGE, candidates: "bytes | Fault" = Fault("Empty")) -> FeaturesTask:
     """GeoJSON of an answer to `match`."""
-    return FeaturesTask(JudgedBy(asked_of("match", {}, 10), None), answer, candidates)
+    return FeaturesTask("match", answer, candidates)
 
 
 def with_makers(run: "Callable[[Makers], Any]") -> Any:

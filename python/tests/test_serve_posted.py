@@ -17,9 +17,7 @@ from olr.serving.features import OF_LINES
 from olr.serving.limits import MIB
 from olr.serving.posted import MOST_BYTES, MOST_REFS, posted_of, records_of
 from olr.serving.problems import Problem
-from olr.serving.queries import asked_of
 from olr.serving.rows import lots_of
-from olr.serving.tasks import JudgedBy
 from servers import Reply, Server, expected_of, path_of, serving
 
 ODD = ["", "a\tb", "x\ny", "\ud800", "ä", "CwVG", f" {REFERENCE}\n", "A" * 400]
@@ -258,8 +256,7 @@ def test_lots(sizes: list[int], lots: list[int]) -> None:
 def test_an_answer_that_is_too_large_for_features() -> None:
     """It isn't read: its record has a fault."""
     network = olr.Network.read(TOP / "examples")
-    judged_by = JudgedBy(asked_of("match", {}, 10), None)
-    (feature,) = features_in(lines_of(answered(MOST_ANSWER + 1), network, judged_by))
+    (feature,) = features_in(lines_of(answered(MOST_ANSWER + 1), network, "match"))
     assert feature["properties"]["fault"] == "AnswerTooLarge" and feature["geometry"] is None
     with pytest.raises(ProgramEnded, match="what is no answer"):
-        lines_of(answered(MOST_ANSWER), network, judged_by)
+        lines_of(answered(MOST_ANSWER), network, "match")

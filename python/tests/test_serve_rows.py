@@ -12,6 +12,7 @@ from typing import Any, NamedTuple
 from asking import likeliest_of
 from bad_programs import bad_program
 from conftest import REFERENCE, Program, Tools
+from olr.asking.program import SHIPPED
 from runs import Town
 from servers import Server, serving, started, wait_until
 
@@ -235,9 +236,7 @@ def test_a_confidence_of_ones_own(
     program: Program, town: Town, tools: Tools, tmp_path: Path
 ) -> None:
     """`--confidence` names one, which is for other tolerances here."""
-    from olr.confidence import confidence as shipped
-
-    own = json.loads(shipped.DEFAULT.read_text())
+    own = json.loads(SHIPPED.read_text())
     file = tmp_path / "own.json"
     own["tolerances"]["radius"] = 60
     file.write_text(json.dumps(own))

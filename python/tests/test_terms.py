@@ -1,4 +1,4 @@
-"""What speaks for and against places, by hand: what answers say of it, why places are as probable, and what a feed shows."""
+"""What speaks for and against places, by hand: what answers say of it, and what a feed shows."""
 
 import json
 import numpy as np
@@ -9,11 +9,10 @@ import olr
 from confidences import made_terms
 from conftest import Program
 from drawing import Drawing
-from olr.confidence.choosing import judging_for
 from olr.confidence.feed import statistics_of
-from olr.confidence.reasons import reasons_of
-from olr.confidence.terms import Terms, ends_of, terms_of
+from olr.confidence.terms import Terms, terms_of
 from olr.confidence.weights import OF_PLACE, WEIGHTS, differences_of
+from olr.geometry.parts import ends_of
 from olr.model.answers import Places, ReferencePoint
 from olr.model.objects import read_answer
 from olr.tools import run
@@ -71,7 +70,7 @@ def test_terms_by_hand() -> None:
     assert (terms.costs.tolist(), terms.lines.tolist()) == ([4150], [3])
     assert terms.turns_back.tolist() == [False]
     assert terms.end.tolist() == [200, 800, 300]
-    assert ends_of([one.places[0].matching]) == [100]
+    assert ends_of([one.places[0].matching.points]) == [100]
     assert (terms.distance.tolist(), terms.sectors.tolist()) == ([4000, 0, 0], [2, 0, 0])
     assert (terms.classes.tolist(), terms.other_form.tolist()) == ([0, 1, 0], [False, True, False])
     assert terms.least.tolist() == [2 * INTERVAL, 5 * INTERVAL]
@@ -140,45 +139,6 @@ def of_three(**others: Any) -> Terms:
     return made_terms([1], [3], **usual | others)
 
 
-@pytest.mark.parametrize(
-    "found, reason",
-    [
-        (of_three(), ""),
-        (of_three(distance=[1999, 0, 0], sectors=[0, 1, 0], end=[0, 199, 0]), ""),
-        (of_three(distance=[0, 2000, 0]), "point 2 lies 20 m beside its line"),
-        (of_three(sectors=[0, 0, 2]), "the direction at point 3 differs by about 22 degrees"),
-        (of_three(end=[200, 0, 0]), "point 1 lies 20 m after the start of its line"),
-        (of_three(end=[0, 200, 0]), "point 2 lies 20 m after the start of its line"),
-        (of_three(end=[0, 0, 200]), "point 3 lies 20 m before the end of its line"),
-        (of_three(length=[5000, 5595]), "leg 2 is 10 percent longer than the reference says"),
-        (of_three(length=[3991, 5000]), "leg 1 is 10 percent shorter than the reference says"),
-        (of_three(length=[5000, 5186]), ""),
-        (of_three(lines=[15]), "15 lines, any of which may be missing"),
-        (of_three(turns_back=[True]), "it turns back"),
-    ],
-)
-def test_a_reason(found: Terms, reason: str) -> None:
-    """What is off by less isn't said."""
-    said = reason or "points, directions and lengths are as the reference says"
-    assert reasons_of(found) == [said]
-
-
-def test_the_weightiest_reasons() -> None:
-    """Four are said, those that weigh most first."""
-    found = of_three(
-        end=[0, 600, 0],
-        distance=[9000, 0, 0],
-        sectors=[0, 3, 0],
-        length=[5000, 7500],
-        turns_back=[True],
-        lines=[20],
-    )
-    assert reasons_of(found) == [
-        "it turns back; leg 2 is 47 percent longer than the reference says; point 1 lies 90 m beside its line; "
-        "the direction at point 2 differs by about 34 degrees"
-    ]
-
-
 @pytest.mark.parametrize("length, off", [(9707, 0.0), (10678, 0.1), (8736, 0.1)])
 def test_how_far_long_legs_are_off(length: int, off: float) -> None:
     """From the middle of the interval that the reference says, in both directions."""
@@ -186,15 +146,6 @@ def test_how_far_long_legs_are_off(length: int, off: float) -> None:
     numbers = statistics_of(found, np.zeros(len(WEIGHTS)))
     median = "median share by which long legs differ from the middle of what it says"
     assert numbers[median] == pytest.approx(off, abs=1e-4)
-
-
-def test_other_numbers_without_a_file() -> None:
-    """Then there are no probabilities, which is no error."""
-    chosen = judging_for(None, {"radius": 50}, {})
-    assert chosen.judging.confidence is None and chosen.others.startswith("radius is 50, not 75")
-    assert chosen.note.startswith("no probabilities: radius is 50")
-    own = judging_for(None, {"radius": 75, "bearing": 6, "lowest": 4, "percent": 15}, {})
-    assert own.judging.confidence is not None and not own.note
 
 
 def test_a_route_that_turns_back(program: Program, tmp_path: Path) -> None:

@@ -13,7 +13,7 @@ from browser import Browser
 from confidences import FEED, write_confidence
 from conftest import OF_PROGRAM, REFERENCE, TOP, Program, Tools
 from feeds import data_of
-from olr.confidence.likeness import Range
+from olr.confidence.confidence import Range
 from olr.errors import ToolError
 from olr.model.fault import TOO_LARGE
 from olr.pages.view import scene

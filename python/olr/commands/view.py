@@ -65,7 +65,7 @@ def command(
     tolerances = asking.tolerances
     with Map.of_folder(folder, patience=patience, confidence=confidence, **tolerances) as asked:
         sure = chosen_for(asked, asking.numbers, confidence is not None)
-        scene = scene_of(text, asked, sure.confidence, **asking.numbers)
+        scene = scene_of(text, asked, **asking.numbers)
         made = Making(folder, confidence, tiles)
         message = Message(record or 0, reference if messages else None, text)
         answering = page_for_reference(asked, made, asking, message) if live else None

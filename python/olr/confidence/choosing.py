@@ -20,11 +20,16 @@ class Chosen(NamedTuple):
     """Why there are no probabilities, as other numbers are asked with than those that it is for; an empty text if there are."""
 
 
+def confidence_of(asked: Map) -> Confidence:
+    """The confidence with which a map is asked. Raises `ToolError` if it can't be read."""
+    return Confidence.of_file(asked.confidence or SHIPPED)
+
+
 def chosen_for(asked: Map, numbers: Mapping[str, int], is_named: bool = False) -> Chosen:
     """The confidence with which a map is asked about places by these numbers: those that were given. Raises `ToolError` if it can't be read, the
     program says that it is none, or it was named and is for others; `Fault` for a number that is out of its range; and as `Map.answers`.
     """
-    confidence = Confidence.of_file(asked.confidence or SHIPPED)
+    confidence = confidence_of(asked)
     given: dict[str, Any] = {**numbers, "look": 1, "order": "likely"}
     (found,) = asked.answers("places", [SOME_REFERENCE], **given)
     if isinstance(found, Fault) and found.name == BAD_CONFIDENCE:

@@ -56,7 +56,7 @@ class Olr {
 
   // The lines that `olr answer` writes for records on the map that was read, as bytes: with the file of a confidence, of which these are the
   // bytes, or without one where there are none. Throws `NoMemory`.
-  answer(records, confidence) {
+  answer(records, confidence = new Uint8Array()) {
     return this.#during((take) => {
       const input = [...this.#given(take, records), ...this.#given(take, confidence)]
       const rooms = this.#rooms(take)

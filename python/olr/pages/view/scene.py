@@ -6,6 +6,7 @@ from typing import Any, NamedTuple
 from olr.asking.once import decode
 from olr.client.answering import drawn_legs
 from olr.client.map_client import Map
+from olr.confidence.choosing import confidence_of
 from olr.confidence.confidence import Confidence
 from olr.model.answers import Candidate, Candidates, Matching, Page, Places, Reference, Why
 from olr.model.asked_with import command_text
@@ -33,15 +34,15 @@ class Answered(NamedTuple):
     """None where it fits somewhere."""
 
 
-def scene_of(text: str, asked: Map, confidence: Confidence, **numbers: int) -> Scene:
-    """What a reference says, where it fits, how well and how probably; or why it doesn't. The confidence is that of the map, and the numbers are
-    those of `places`. Raises `Fault` if it is no reference, or a number is out of its range, and `MapRefused` if the map's files change
-    meanwhile."""
+def scene_of(text: str, asked: Map, **numbers: int) -> Scene:
+    """What a reference says, where it fits, how well and how probably; or why it doesn't. The numbers are those of `places`. Raises `Fault` if it
+    is no reference, or a number is out of its range, and `MapRefused` if the map's files change meanwhile.
+    """
     reference = decode(text, asked.program)
     (answered,) = answers_about([(text, reference)], asked, **numbers)
     if isinstance(answered.why, Fault):
         raise answered.why
-    scene = scene_of_answers(answered, confidence, {**asked.tolerances, **numbers})
+    scene = scene_of_answers(answered, confidence_of(asked), {**asked.tolerances, **numbers})
     notes = notes_of(_legs(text, asked, scene), asked.tolerances["lowest"])
     return scene | notes | lines_drawn(lines_around(asked, box_of(scene)))
 

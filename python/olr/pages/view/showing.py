@@ -85,8 +85,8 @@ def view(
     if text is None:
         raise TypeError("this answer doesn't know its reference: give the text of it")
     with opened(map, confidence) as asked:
-        sure = chosen_for(asked, numbers, confidence is not None)
-        scene = scene_of(text, asked, sure.confidence, **numbers)
+        chosen_for(asked, numbers, confidence is not None)
+        scene = scene_of(text, asked, **numbers)
         all_numbers = {**asked.tolerances, **all_of_question("places", numbers)}
         add_command(scene, _name_of(asked.files), all_numbers)
     return View(title_of(scene), html_of(scene, tiles))
