@@ -15,8 +15,8 @@ without a map; `olr.read_messages` and `olr.read_feed`, a file of references; an
 python/examples/first.md is a first session, notebook.md one with tables, and docs/GUIDE.md has all tasks.
 
 `olr.Network` has a map as geometries, `olr.to_geodataframe` and `olr.to_pieces` make tables of answers, `olr.answers` reads what `olr-tools
-run` wrote, and `olr.Confidence` says how probable places are. All names are imported when they are first used. `olr.Map`, `olr.decode`,
-`olr.read_messages`, `olr.read_feed` and answers need Python alone.
+run` wrote, and `olr.Confidence` is the file by which the program says how probable places are. All names are imported when they are first used. `olr.Map`,
+`olr.Confidence`, `olr.decode`, `olr.read_messages`, `olr.read_feed` and answers need Python alone.
 
 | package | subject |
 |---|---|
@@ -29,7 +29,7 @@ run` wrote, and `olr.Confidence` says how probable places are. All names are imp
 | `messages` | `olr.read_messages` and `olr.read_feed`: files of messages, in all formats |
 | `osm`, `vector`, `importing` | maps from OpenStreetMap files and from other vector files; what both have in common |
 | `checking` | what is wrong with a map's files, and what a map should be looked at for |
-| `confidence` | `olr.Confidence`: how probable it is that a place is the right one, by trials |
+| `confidence` | `olr.Confidence`: by what the program says how probable places are, made by trials |
 | `trials` | references whose true path is known, and maps that differ as those of two makers do |
 | `matching` | answers as rows, tables and files with geometries |
 | `comparing` | what changes for references with another map |
@@ -100,6 +100,7 @@ _MODULES = {
     "olr.asking.once": ("decode",),
     "olr.client.map_client": ("Map",),
     "olr.client.written": ("answers",),
+    "olr.confidence.confidence": ("Confidence",),
     "olr.errors": ("MapRefused", "ProgramEnded", "ProgramNotFound", "TimedOut", "ToolError"),
     "olr.messages.message": ("Message",),
     "olr.messages.reading": ("read_feed", "read_messages"),
@@ -109,7 +110,6 @@ _MODULES = {
     "olr.model.pieces": ("Piece", "Place"),
 }
 _OF_GEOMETRIES = {
-    "olr.confidence.confidence": ("Confidence",),
     "olr.geometry.network": ("Network",),
     "olr.matching.geodataframe": ("to_geodataframe", "to_pieces"),
     "olr.matching.locating": ("locate",),

@@ -85,7 +85,6 @@ with olr.Map.of_folder(examples, program=program, profile="program") as town:
 
 MODULE_OF = {
     "Network": "numpy",
-    "Confidence": "numpy",
     "locate": "geopandas",
     "to_geodataframe": "geopandas",
     "view": "numpy",

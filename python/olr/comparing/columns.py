@@ -114,7 +114,7 @@ class Changes:
     remedy = Column("str", of_rows(lambda it: remedy_of(it.side.why)))
     """the option of the program to try first, in its own unit, such as `lowest 2`"""
     reasons = of_answers(Answers.reasons)
-    """why the place is as probable, with `; ` between them"""
+    """why the place is no more probable, with `; ` between them"""
     fault = Column("str", of_rows(lambda it: it.side.fault()))
     """why the message is refused by this map, in the program's words; or why it says no reason"""
 

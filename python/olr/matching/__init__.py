@@ -6,7 +6,7 @@
 | `columns` | the columns of each table |
 | `kept_columns` | members of records that are kept, as columns behind these |
 | `rows` | what columns are worked out of: answers and pieces as rows, some hundred at once |
-| `chunks` | answers, judged, and their rows |
+| `chunks` | answers, and their rows |
 | `reasons` | what `why` says as rows |
 | `shapes` | lines and points of many rows at once, as other programs read them |
 | `geopackage`, `texts` | rows into a GeoPackage; into CSV and GeoJSON |

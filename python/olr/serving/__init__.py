@@ -11,11 +11,11 @@
 | `runs` | runs that end by themselves: of the program, for its version, and of Python |
 | `served` | what the addresses ask of a map |
 | `folder_map`, `store_map` | the map of a folder, and that of a store |
-| `judging` | how places are asked whose probability is shown |
+| `wanted` | questions as what is made of their answers needs them |
 | `features`, `scenes`, `rows` | what is asked for answers as GeoJSON, for what a page draws, and for lines about many references |
 | `tasks`, `makers`, `rooms` | what the server asks of processes of its own, which make these; who asks them; how many work at once |
 | `maker`, `ground` | such a process; what it has of a map |
-| `feature_texts`, `scene_texts`, `row_texts`, `chosen` | what it makes, and by what places are judged there |
+| `feature_texts`, `scene_texts`, `row_texts` | what it makes |
 | `files` | answers in files |
 | `streaming`, `bodies` | `POST /batch/{command}` and `POST /rows`; their bodies, and how records are asked ahead |
 | `posted` | `POST /match` and so on: questions as JSON |

@@ -15,7 +15,16 @@ from typing import Any, Literal, get_args, get_origin, get_type_hints
 from olr.matching.columns import ANSWERS, IN_FRONT, Answers, InFront
 from olr.matching.tables import Column, Kind, sentences_of
 from olr.model import answers
-from olr.model.answers import Candidates, Matching, Page, Places, Reference, Shape, Why
+from olr.model.answers import (
+    Candidates,
+    Matching,
+    Page,
+    PlaceOfReference,
+    Places,
+    Reference,
+    Shape,
+    Why,
+)
 from olr.model.pieces import Piece, Pieces, Place, Spot, Spots
 from olr.model.questions import What
 
@@ -34,10 +43,12 @@ OF_QUESTION: Mapping[What, type] = {
 """The class of the answer to a question."""
 OF_ONE_KIND: Mapping[type, Collection[str]] = {
     Matching: ("earliest", "latest", "outer", "inner"),
+    PlaceOfReference: ("probability", "reasons"),
+    Places: ("none_of_these", "map_differs", "differs"),
     Reference: ("negative", "orientation", "side"),
     Shape: ("outer", "inner"),
 }
-"""Members that lines alone have, or points along lines alone."""
+"""Members that lines alone have, points along lines alone, or places in the likely order."""
 OF_ROW = "verdict probability none_of_these reasons total margin turns_back fault".split()
 """Columns of the rows of the page's list."""
 ANYTHING: Json = {"type": "array", "items": {}}
@@ -197,7 +208,7 @@ def _row() -> Json:
     """A row of the page's list."""
     columns = _columns(ANSWERS, Answers)
     cut_off = "whether looking ended before a place that might be shown"
-    none = "why there are no probabilities with these options; null if there are"
+    none = "why there are no probabilities with these options; null if there are, and for a record that is refused"
     members = {
         **_message_front(),
         **{name: columns[name] for name in OF_ROW},
