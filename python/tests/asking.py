@@ -12,9 +12,12 @@ from pathlib import Path
 from typing import Any
 
 from conftest import TOP, Program, Tools
+from olr.model.answers import PlaceOfReference, Places
 from olr.model.late import Late
 from olr.model.questions import LIST, What, options_for
 
+OF_LIKELY = ("probability", "reasons", "none_of_these", "map_differs", "differs")
+"""Members of answers in the likely order, which may be null there."""
 ASKED_FOR: dict[str, Any] = {**LIST, "shape": True}
 """A value of each option that isn't its default, and of some numbers."""
 
@@ -50,6 +53,10 @@ def as_json(answer: Any) -> Any:
     if "earliest" in found:
         absent = ("earliest", "latest") if found["earliest"] is None else ("outer", "inner")
         found = {name: value for name, value in found.items() if name not in absent}
+    if isinstance(answer, Places) and answer.differs is None:
+        found = {name: it for name, it in found.items() if name not in OF_LIKELY}
+    if isinstance(answer, PlaceOfReference) and "probability" not in vars(answer):
+        found = {name: it for name, it in found.items() if name not in OF_LIKELY}
     if found.get("kind") == "line":
         found = {name: found[name] for name in found if name not in ("orientation", "side")}
     if found.get("kind") == "point-along-line":

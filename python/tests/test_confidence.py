@@ -300,7 +300,7 @@ def test_a_file_is_read_as_it_was_written(tmp_path: Path) -> None:
     for made in (confidence_of(), confidence_of(map_differs=None, level=0.05)):
         file.write_text(text_of(made))
         found = Confidence.of_file(file)
-        assert replace(found, file=None) == made and text_of(found) == text_of(made)
+        assert (found.file, found) == (file, made) and text_of(found) == text_of(made)
     content = json.loads(file.read_text())
     assert content["version"] == 3 and content["weights"] == ROUND
     assert content["units"] == {name: weight.unit for name, weight in WEIGHTS.items()}
@@ -344,12 +344,15 @@ def test_what_is_no_file(text: str, reason: str, tmp_path: Path) -> None:
 
 
 def test_a_path_of_a_confidence(tmp_path: Path) -> None:
-    """It is that of its file, if there is one."""
+    """It is that of its file, or of a scratch file for one that has none, which is there as long as it is."""
     file = tmp_path / "confidence.json"
     file.write_text(text_of(confidence_of()))
     assert os.fspath(Confidence.of_file(file)) == str(file)
-    with pytest.raises(ValueError, match="isn't written"):
-        os.fspath(confidence_of())
+    other = replace(Confidence.of_file(file), level=0.5)
+    scratch = Path(os.fspath(other))
+    assert Confidence.of_file(scratch) == other and os.fspath(other) == str(scratch) != str(file)
+    del other
+    assert not scratch.exists()
 
 
 def test_the_one_that_comes_with_the_package() -> None:

@@ -87,7 +87,7 @@ MODULE_OF = {
     "Network": "numpy",
     "locate": "geopandas",
     "to_geodataframe": "geopandas",
-    "view": "numpy",
+    "view": "jinja2",
 }
 
 

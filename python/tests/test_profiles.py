@@ -286,7 +286,8 @@ def test_nothing_more_is_asked_where_all_fit(
     messages.write_text(f"m1\t{REFERENCE}\nm2\tbad\n")
     out = tmp_path / "out.csv"
     assert tools(["match", messages, "--map", EXAMPLES, "--out", out, *words]) == 0
-    assert sorted(asked) == sorted(["candidates", words[0][2:] if words else "match"])
+    # For places it is asked first whether the confidence is for these numbers.
+    assert sorted(asked) == ["candidates", *(["places"] * 2 if words else ["match"])]
     assert line_of(capsys.readouterr().out) == []
 
 

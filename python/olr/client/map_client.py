@@ -92,8 +92,7 @@ class Map(Answering):
         self._patience = require_patience(patience)
         if processes < 1:
             raise ValueError(f"processes is how many there may be, from 1 on, not {processes!r}")
-        given = SHIPPED if confidence is None else confidence
-        self._confidence = None if given is False else Path(given)
+        self._confidence = SHIPPED if confidence is None else confidence or None
         self._given = (nodes, lines, bans)
         made = partial(
             FilesSource,
@@ -227,7 +226,7 @@ class Map(Answering):
         >>> olr.Map("examples").confidence.name
         'shipped.json'
         """
-        return self._confidence
+        return None if self._confidence is None else Path(self._confidence)
 
     @property
     def files(self) -> MapFiles:

@@ -2,11 +2,13 @@
 
 import json
 import os
+import tempfile
 from collections.abc import Mapping
-from dataclasses import dataclass
+from dataclasses import dataclass, field
 from functools import cache
 from pathlib import Path
 from typing import Any, NamedTuple
+from weakref import finalize
 
 from olr.asking.program import SHIPPED
 from olr.errors import ToolError, readable
@@ -54,8 +56,8 @@ class Confidence(os.PathLike[str]):
     level: float = 0.0
     """How far the share of likeliest places that are right lies from what is told of them, over the trials that count: a standard
     deviation."""
-    file: Path | None = None
-    """None for one that isn't written yet."""
+    file: Path | None = field(default=None, init=False, repr=False, compare=False)
+    """That of which it was read, or a scratch file in which it was needed; None as long as there is none."""
 
     @classmethod
     def of_file(cls, file: str | os.PathLike[str]) -> "Confidence":
@@ -73,7 +75,7 @@ class Confidence(os.PathLike[str]):
         try:
             found = json.loads(content)
             differs = found["map_differs"]
-            return cls(
+            made = cls(
                 tolerances=dict(found["tolerances"]),
                 apart=found["apart"],
                 weights=dict(found["weights"]),
@@ -81,10 +83,11 @@ class Confidence(os.PathLike[str]):
                 and Range(*(differs[name] / THOUSANDTHS for name in Range._fields)),
                 about=dict(found["about"]),
                 level=float(found["level"]),
-                file=path,
             )
         except (ValueError, TypeError, LookupError, RecursionError) as error:
             raise no_confidence(path, f"{type(error).__name__}: {error}") from error
+        object.__setattr__(made, "file", path)
+        return made
 
     @classmethod
     def default(cls) -> "Confidence":
@@ -98,8 +101,14 @@ class Confidence(os.PathLike[str]):
 
     def __fspath__(self) -> str:
         if self.file is None:
-            raise ValueError("this confidence isn't written to a file")
-        return os.fspath(self.file)
+            from olr.confidence.contents import text_of
+
+            descriptor, name = tempfile.mkstemp(".json", "olr-confidence.")
+            finalize(self, os.unlink, name)
+            with open(descriptor, "w", encoding="utf-8") as stream:
+                stream.write(text_of(self))
+            object.__setattr__(self, "file", Path(name))
+        return str(self.file)
 
 
 def no_confidence(file: str | os.PathLike[str], why: object) -> ToolError:

@@ -126,6 +126,8 @@ def _row(drawn: Drawn, answered: Answered | None) -> Row:
     if isinstance(found, Fault):
         return row | _cause(found)
     row |= {"verdict": found.verdict, "margin": found.margin}
+    if found.none_of_these is not None:
+        row["none_of_these"] = share(found.none_of_these)
     if not found.places:
         return row | _cause(answered.why)
     likeliest = found.places[0]
@@ -137,7 +139,6 @@ def _row(drawn: Drawn, answered: Answered | None) -> Row:
         row["turns_back"] = TURNS_BACK
     if likeliest.probability is not None:
         row["probability"] = share(likeliest.probability)
-        row["none_of_these"] = share(found.none_of_these)
     return row
 
 
