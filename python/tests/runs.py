@@ -19,8 +19,10 @@ from typing import TYPE_CHECKING, NamedTuple
 from asking import draw_map, draw_references
 from conftest import OF_PROGRAM, TOP, Program, Tools
 from forked import Forked
+from olr.asking.program import SHIPPED
 from olr.content import Content
 from olr.messages.message import Reading
+from olr.model.questions import LIKELY, all_words
 from olr.regions.making import make_store_of_folder
 from olr.regions.store import Store
 from olr.running.answering import GroupsFailed, Job, answer_groups
@@ -172,6 +174,11 @@ def without_progress(stderr: str) -> str:
     """What was said but for how far a run was."""
     lines = stderr.splitlines(keepends=True)
     return "".join(line for line in lines if not re.match("[a-zA-Z ]+: [0-9,]+( of |$)", line))
+
+
+def likely_words(what: str) -> list[object]:
+    """The words of a question as a run asks it: of places those of the likely order, by the confidence of the package."""
+    return [*all_words(LIKELY), "--confidence", SHIPPED] if what == "places" else []
 
 
 class Runs:

@@ -9,11 +9,18 @@ from collections.abc import Iterator
 from pathlib import Path
 
 from conftest import ASKED_WITH_PROGRAM, OF_PROGRAM, Program
-from olr.model.questions import LIST, all_words
 from olr.running import cluster
 from olr.tools import run
 from region_maps import Drawing, hostile_map, hostile_text
-from runs import Runs, Town, assert_resumes, identities, listened_on, without_progress
+from runs import (
+    Runs,
+    Town,
+    assert_resumes,
+    identities,
+    likely_words,
+    listened_on,
+    without_progress,
+)
 from schedulers import Scheduler, Shared
 
 
@@ -149,8 +156,8 @@ def records_of(draw: random.Random, drawing: Drawing) -> list[bytes]:
 def test_all_questions_on_two_maps(
     runs: Runs, shared: Shared, monkeypatch: pytest.MonkeyPatch, capfd: pytest.CaptureFixture[str]
 ) -> None:
-    """By the command line alone, from the files of a map to the joined lines. All runs have the workers that were there. Places are all that
-    there are, up to 100."""
+    """By the command line alone, from the files of a map to the joined lines. All runs have the workers that were there. Places are in the
+    likely order, by the confidence of the package."""
     shared.ask(runs.program.path)
     monkeypatch.setenv("OLR_PROGRAM", os.fspath(shared.program))
     questions: dict[str, list[str]] = {
@@ -175,7 +182,7 @@ def test_all_questions_on_two_maps(
             assert run(list(map(str, words))) == 0, capfd.readouterr().err
             command = [runs.program.path, "batch", what, "--map", folder, *options]
             command += ["--input", messages]
-            command += all_words(LIST) if what == "places" else []
+            command += likely_words(what)
             ended = subprocess.run(list(map(str, command)), capture_output=True, check=True)
             is_same = joined.read_bytes() == ended.stdout
             assert ended.stdout.count(b"\n") == 120 and is_same

@@ -9,11 +9,10 @@ from pathlib import Path
 from asking import draw_map
 from bad_programs import bad_program, starts
 from conftest import Program
-from olr.model.questions import LIST, all_words
 from olr.running.answering import GroupsFailed, answer_groups
 from olr.running.asked_map import AskedMap
 from olr.running.kept import Kept
-from runs import Begun, Runs, Town, assert_resumes, lines_of_batch
+from runs import Begun, Runs, Town, assert_resumes, likely_words, lines_of_batch
 
 GROUPS = ["--per-group", 20]
 
@@ -25,8 +24,7 @@ def test_all_answers(runs: Runs, what: str) -> None:
     words += [] if what == "match" else [f"--{what}"]
     ended = runs.run(*words, workers=3)
     assert (ended.status, ended.stderr) == (0, "")
-    options = all_words(LIST) if what == "places" else []
-    assert runs.joined.read_bytes() == runs.expected(*options, what=what)
+    assert runs.joined.read_bytes() == runs.expected(*likely_words(what), what=what)
     assert len(runs.parts()) > 10 and os.listdir(runs.scratch) == []
 
 

@@ -90,11 +90,6 @@ def test_looking_that_was_cut_off(
     assert olr_tools(*words) == 0
     expected = [line for line in capsys.readouterr().out.splitlines() if "cut off" in line]
     assert len(expected) == 1 and expected[0] in found
-    # Other rows need no other answers.
-    words = ["run", town.plain, "--store", town.store, "--out", tmp_path / "out", *more]
-    words += ["--resume", "--geometries", rows, "--force"]
-    assert olr_tools(*words, "--within", 0, "--most", 1) == 0
-    assert f"{rows}: 300 rows" in capsys.readouterr().out
 
 
 def _counting(read: list[int]) -> Any:
@@ -119,9 +114,6 @@ def test_words_and_files(
     assert olr_tools(*words, "--why", "--geometries", out) == 2
     assert olr_tools(*words, "--geometries", out, "--join", out) == 2
     assert olr_tools(*words, "--join", tmp_path / "rows.gpkg") == 2
-    for option in ("--within", "--most"):
-        assert olr_tools(*words[:-2], "--places", option, 3) == 2
-        assert "the lines of --places have all places" in capsys.readouterr().err
     assert olr_tools(*words, "--geometries", town.store, "--force") == 1
     assert not (tmp_path / "out").exists()
     assert olr_tools(*words) == 0

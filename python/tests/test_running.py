@@ -242,6 +242,7 @@ def test_folders_of_runs(town: Town, program: Program, tmp_path: Path) -> None:
         "format": {"format": "csv"},
         "ref, key": {"ref": "a", "key": "b"},
         "base64": {"base64": "url"},
+        "confidence": {"confidence": "aa"},
     }
     records = list(read_records(town.plain, Reading()))
     run = RunFolder(tmp_path / "new" / "run")
@@ -281,8 +282,8 @@ def test_folders_of_runs(town: Town, program: Program, tmp_path: Path) -> None:
     for text, said in (
         (json.dumps(table), "has groups of another version of olr-tools: name another folder"),
         ("{}", "isn't understood"),
-        ('{"version": 3}', "isn't understood"),
-        ('{"version": 2}', "holds a run of another version of olr-tools: name another folder"),
+        ('{"version": 4}', "isn't understood"),
+        ('{"version": 3}', "holds a run of another version of olr-tools: name another folder"),
     ):
         (run.path / "run.json").write_text(text)
         with pytest.raises(ToolError, match=said):
