@@ -109,7 +109,7 @@ async def made_of(asked: Makers, map: MapVersion, task: FeaturesTask) -> bytes:
 
 def test_no_numpy() -> None:
     """The server starts without it, and without what reads maps."""
-    names = "numpy", "sqlite3", "olr.geometry.network", "olr.confidence.confidence"
+    names = "numpy", "sqlite3", "olr.geometry.network"
     words = f"import sys, olr.commands.serve; print([it for it in {names} if it in sys.modules])"
     said = subprocess.run([sys.executable, "-c", words], capture_output=True, check=True)
     assert said.stdout == b"[]\n"

@@ -137,8 +137,8 @@ def test_profiles(page: Page, program: Program, folder: Path) -> None:
     assert values_of(page) == {**tolerances_of("program"), "radius": 80}
     assert page.query() == f"{query}&profile=program&radius=80"
     assert page.text("#options-button") == "Options: profile program, radius 80"
-    # All places are asked for: the likeliest one isn't always the first one.
-    command = f"olr places {ROADWORKS} --map {folder.name} --radius 80 --within 14620 --most 100 --order likely --detail"
+    # The likeliest place isn't always the first one.
+    command = f"olr places {ROADWORKS} --map {folder.name} --radius 80 --order likely --detail"
     assert page.text("#command") == command
     link = page.value("document.querySelector('#answers a:nth-of-type(2)').href")
     given = ("--map", folder, "--radius", 80, "--format", "json")

@@ -86,7 +86,8 @@ def test_rows_of_match(profile: str, server: Server, sixty: bytes, wanted_of: Wa
             assert row[name] == (json.loads(wanted[name]) if wanted[name] else None), wanted
     has_probabilities = any(row["probability"] is not None for row in rows)
     assert has_probabilities == (profile == "feed")
-    assert {row["no_probabilities"] is None for row in rows} == {profile == "feed"}
+    answered = [row for row in rows if row["verdict"] != "fault"]
+    assert {row["no_probabilities"] is None for row in answered} == {profile == "feed"}
     some = b"".join(sixty.splitlines(keepends=True)[:20])
     pieces = (some[at : at + 300] for at in range(0, len(some), 300))
     assert rows_of(server, pieces, f"?profile={profile}") == rows[:20]
@@ -250,4 +251,5 @@ def test_a_confidence_of_ones_own(
         assert [row["probability"] for row in rows] == given and any(given)
         other = rows_of(server, messages.read_bytes())
         assert {row["probability"] for row in other} == {None}
-        assert other[0]["no_probabilities"].startswith("no probabilities: radius is 75, not 60")
+        notes = [row["no_probabilities"] for row in other if row["verdict"] != "fault"]
+        assert all(note.startswith("no probabilities: radius is 75, not 60") for note in notes)

@@ -15,8 +15,9 @@ from olr.errors import ToolError, readable
 
 THOUSANDTHS = 1000
 """In which a file says how different maps are, and the program too."""
-SOME_REFERENCE = "CwVF/yN2yRpnBAFUAAgbpwYBAf9kK0Fa"
-"""A line, wherever the map is: to ask whether the program reads a map and a confidence, and which numbers that is for."""
+SOME_REFERENCE = "CwAAAAAAABtoAQBkAAAbGA=="
+"""A line in the Gulf of Guinea, where hardly a map has one: to ask whether the program reads a map and a confidence, and which numbers that is
+for."""
 BAD_CONFIDENCE = "BadConfidence"
 """The fault of what is asked about places with a file that is none."""
 
