@@ -246,8 +246,7 @@ def test_how_probable_it_is(
     titles = browser.value("[...document.querySelectorAll('.entry b')].map(e => e.textContent)")
     assert titles == ["Place 1probability 0.38", "Place 2probability 0.38"]
     reasons = browser.value("[...document.querySelectorAll('.reasons')].map(e => e.innerText)")
-    assert reasons[0] == "leg 1 is 9 percent longer than the reference says."
-    assert "the direction at point 2 differs by about 34 degrees" in reasons[1]
+    assert reasons == ["points, directions and lengths are nearly as the reference says."] * 2
     texts = browser.value("[...document.querySelectorAll('#probability li')].map(e => e.innerText)")
     assert texts[0] == "None of these: probability 0.23."
     assert [text[: len(shown)] for text in texts[1:]] == ([shown] if shown else [])
@@ -266,9 +265,11 @@ def test_no_probability(
     sure, page = write_confidence(folder / "sure.html"), folder / "page.html"
     words = ["view", "--map", str(folder), "--out", str(page), "--force", *OF_PROGRAM]
     own = "Probabilities are of lines: a point along a line has none."
+    others = "radius is 150, not 75; bearing is 4, not 6; lowest is 0, not 4; percent is 30, not 15"
+    note = f"o probabilities: {others}: make a file with your options by olr-tools calibrate"
     for more, texts, notes in (
         ([KIOSK, "--confidence", str(sure)], [own], []),
-        ([ROADWORKS, "--radius", "150"], [], ["no probabilities: radius is 150, not 75"]),
+        ([ROADWORKS, "--radius", "150"], [f"N{note}."], [f"n{note}"]),
         ([UNMATCHED, "--radius", "150"], [], []),
     ):
         assert run([*words, *more]) == 0
@@ -278,7 +279,7 @@ def test_no_probability(
         assert "probability" not in browser.value("document.querySelector('#entries').innerText")
         assert (count(browser, "#probability") == 1) == bool(texts)
         printed = capsys.readouterr().out.splitlines()[2:]
-        assert [line.partition(";")[0] for line in printed] == notes
+        assert printed == notes
     assert run([*words, ROADWORKS, "--confidence", str(sure), "--radius", "150"]) == 1
     assert (
         "sure.html says nothing of such answers: radius is 150, not 100" in capsys.readouterr().err
@@ -293,14 +294,13 @@ def test_turning_back_at_a_dead_end(tools: Tools, browser: Browser, folder: Path
     for spots in (((-500, 0), (500, 0)), ((500, 0), (-500, 0)), ((-500, 0), (-5000, 0))):
         drawing.line(*spots)
     text = text_of([Point(0, 0, EAST, 667 // 59), Point(-5000, 0, EAST)])
-    sure = write_confidence(folder / "sure.json")
+    sure = write_confidence(folder / "sure.json", turning_back=1 << 24)
     map_folder = drawing.write(folder / "stub")
     view(tools, browser, map_folder, text, "--confidence", sure)
     (entry,) = entries(browser)
     assert "points 50.0 m from the ends of their lines, turns back" in entry
     reasons = browser.value("document.querySelector('.reasons').innerText")
-    assert reasons.startswith("it turns back; ")
-    assert "point 1 lies 56 m after the start of its line" in reasons
+    assert reasons == "it turns back."
 
 
 def test_looking_was_cut_off(

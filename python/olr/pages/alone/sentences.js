@@ -1,8 +1,7 @@
 "use strict";
 // What the page says of a reference: verdicts and reasons in sentences. Lengths are shown in metres.
 //
-// References, answers and faults are those of the program's JSON, with ids as texts; a judgement is as `judging.js` has it, and a
-// confidence the JSON of its file.
+// References, answers and faults are those of the program's JSON, with ids as texts; a confidence is the JSON of its file.
 
 const INTERVAL_METRES = 58.6;
 const SECTOR_DEGREES = 11.25;
