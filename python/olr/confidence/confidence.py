@@ -15,9 +15,8 @@ from olr.errors import ToolError, readable
 
 THOUSANDTHS = 1000
 """In which a file says how different maps are, and the program too."""
-SOME_REFERENCE = "CwAAAAAAABtoAQBkAAAbGA=="
-"""A line in the Gulf of Guinea, where hardly a map has one: to ask whether the program reads a map and a confidence, and which numbers that is
-for."""
+SOME_REFERENCE = "C6hA790+RRtnAgCW//4bFw=="
+"""A line in the South Pacific, where no land is: to ask whether the program reads a map and a confidence, and which numbers that is for."""
 BAD_CONFIDENCE = "BadConfidence"
 """The fault of what is asked about places with a file that is none."""
 
