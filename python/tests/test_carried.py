@@ -11,13 +11,16 @@ from typing import Any
 import olr
 from conftest import REFERENCE, TOP, Program, Tools, by_default
 from confidences import write_confidence
+from olr import content
 from olr.asking.program import SHIPPED
 from olr.confidence.confidence import Confidence, Range
+from olr.content import sha256_of
 from olr.matching.columns import ANSWERS
 from olr.model.display import plain
 from olr.model.profiles import FEED
 from olr.model.questions import LIKELY
 from olr.model.reasons import Reason, sentence_of
+from olr.running.identity import same_confidence
 
 KIOSK = "KwVGnCN20HPDBwFCATFjT5Y="
 """A point along a line."""
@@ -86,8 +89,11 @@ def test_answers(words: tuple[Any, ...], folder: Path, program: Program) -> None
 
 
 def test_what_was_not_asked_for(folder: Path) -> None:
-    """There are no members then."""
+    """There are no members then, and nothing in columns."""
     with olr.Map(folder) as town, olr.Map(folder, confidence=False) as other:
+        table = olr.to_geodataframe([town.places(ROADWORKS, shape=True)], town)
+        assert table[[*OF_PLACE, *OF_ANSWER, "likely", "ends_m"]].isna().all().all()
+        assert table["rank"].tolist() == [1, 2]
         for found in (town.places(REFERENCE), other.places(REFERENCE, order="likely")):
             assert not {"differs", "none_of_these"} & found.to_dict().keys()
             assert not {*OF_PLACE} & found.to_dict()["places"][0].keys()
@@ -106,7 +112,7 @@ def columns_of(answer: Any, place: int) -> dict[str, Any]:
     probability = one and one["probability"]
     found["probability"] = None if probability is None else round(probability / 1e6, 3)
     found["reasons"] = None if reasons is None else sentence_of([Reason(**it) for it in reasons])
-    return found
+    return found | {"rank": one and one["rank"], "likely": one and place + 1}
 
 
 @pytest.mark.parametrize("radius", [75, 80])
@@ -217,3 +223,18 @@ def test_all_columns_have_a_source() -> None:
     """What the program says has a column each."""
     assert {*OF_PLACE, *OF_ANSWER} < set(ANSWERS)
     assert plain(Reason("lines", 3)) == {"at": None, "by": 3, "kind": "lines"}
+
+
+def test_a_machine_with_another_confidence(tmp_path: Path, monkeypatch: pytest.MonkeyPatch) -> None:
+    """A worker says so, before it asks, and where the file changes meanwhile."""
+    monkeypatch.setattr(content, "SETTLED", 0)
+    sure = write_confidence(tmp_path / "sure.json")
+    with pytest.raises(olr.ToolError, match="on .*: .*sure.json is another confidence than that"):
+        with same_confidence(sure, sha256_of(SHIPPED)):
+            pass
+    with pytest.raises(olr.ToolError, match="sure.json changed while it was used: go on by"):
+        with same_confidence(sure, sha256_of(sure)) as file:
+            assert file == sure
+            write_confidence(sure, none=5)
+    with same_confidence(sure, None) as file:
+        assert file is None
