@@ -128,7 +128,7 @@ def test_answers_that_there_is_no_room_for(
 
     def asked(count: int) -> Any:
         body = "".join(f"{number}\t{reference}\n" for number in range(count))
-        asking = f"fetch('rows?profile=program&look=10000', {{ method: 'POST', body: {json.dumps(body)} }})"
+        asking = f"fetch('rows?profile=program&look=10000&within=14620&most=100', {{ method: 'POST', body: {json.dumps(body)} }})"
         return page.value(f"{asking}.then(async answer => [answer.status, await answer.text()])")
 
     status, text = asked(100)
