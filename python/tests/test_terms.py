@@ -7,11 +7,11 @@ from typing import Any
 
 import olr
 from confidences import made_terms
-from conftest import Program
+from conftest import TOP, Program
 from drawing import Drawing
 from olr.confidence.feed import statistics_of
 from olr.confidence.terms import Terms, terms_of
-from olr.confidence.weights import OF_PLACE, WEIGHTS, differences_of
+from olr.confidence.weights import OF_PLACE, WEIGHTS, differences_of, probabilities
 from olr.geometry.parts import ends_of
 from olr.model.answers import Places, ReferencePoint
 from olr.model.objects import read_answer
@@ -148,16 +148,20 @@ def test_how_far_long_legs_are_off(length: int, off: float) -> None:
     assert numbers[median] == pytest.approx(off, abs=1e-4)
 
 
-def test_a_route_that_turns_back(program: Program, tmp_path: Path) -> None:
-    """A reference at a stub from node 2 to node 4: its best matching runs down the stub and back."""
+def at_a_stub(folder: Path) -> tuple[Path, str]:
+    """A map, and a reference at a stub from node 2 to node 4: its best matching runs down the stub and back."""
     drawing = Drawing({1: (-9000, 0), 2: (0, 0), 3: (9000, 0), 4: (0, 2000)})
     drawing.way(1, [1, 2, 3])
     drawing.way(2, [2, 4])
-    folder = tmp_path / "map"
-    words = ["import", "osm", str(drawing.write(tmp_path / "drawn.osm")), "--out", str(folder)]
-    assert run([*words, "--dead-ends", "allow"]) == 0
+    drawn = str(drawing.write(folder / "drawn.osm"))
+    words = ["import", "osm", drawn, "--out", str(folder / "map"), "--dead-ends", "allow"]
+    assert run(words) == 0
     last = ReferencePoint(6, 3, 0, 9000, 24)
-    text = text_of([ReferencePoint(6, 3, 0, 0, 4, interval=25, lowest=6), last])
+    return folder / "map", text_of([ReferencePoint(6, 3, 0, 0, 4, interval=25, lowest=6), last])
+
+
+def test_a_route_that_turns_back(program: Program, tmp_path: Path) -> None:
+    folder, text = at_a_stub(tmp_path)
     with olr.Map(folder, program=program.path, profile="program") as town:
         found = town.match(text, detail=True).matchings
         likely = town.places(text, within=14_620, order="likely", detail=True)
@@ -165,3 +169,22 @@ def test_a_route_that_turns_back(program: Program, tmp_path: Path) -> None:
     assert [one.rank for one in likely] == [2, 1] and [one.cost for one in likely] == [
         one.cost for one in reversed(found)
     ]
+
+
+def test_the_program_counts_the_same(program: Program, tmp_path: Path) -> None:
+    """What weights are fitted to is that by which it tells probabilities. It does so in whole numbers, so they differ by less than 1e-4."""
+    rows = (TOP / "examples/messages.tsv").read_text().splitlines()[:4]
+    stub, turned = at_a_stub(tmp_path)
+    sure, found = olr.Confidence.default(), []
+    for folder, texts in ((TOP / "examples", [row.split("\t")[1] for row in rows]), (stub, [turned])):
+        with olr.Map(folder, program=program.path, confidence=sure) as town:
+            found += [
+                town.places(text, within=14_620, most=100, order="likely", detail=True)
+                for text in texts
+            ]
+    places = [place for answer in found for place in answer]
+    assert any(place.matching.turns_back for place in places)
+    weights = np.array([float(sure.weights[name]) for name in WEIGHTS])
+    told = probabilities(weights, differences_of(terms_of(found)))
+    assert [place.probability for place in places] == pytest.approx(1e6 * told.of_place, abs=100)
+    assert [one.none_of_these for one in found] == pytest.approx(1e6 * told.of_none, abs=100)
