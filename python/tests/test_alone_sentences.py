@@ -31,7 +31,7 @@ from olr.model.pieces import Pieces
 from olr.model.profiles import FEED, tolerances_of
 from olr.model.questions import What
 from olr.model.reasons import TEXTS as OF_REASONS
-from olr.model.reasons import Reason, sentence_of
+from olr.model.reasons import NO_REASON, Reason, sentence_of
 from olr.pages.alone.tables import tables
 from olr.pages.view import sentences
 
@@ -128,6 +128,7 @@ def test_reasons(alone: Scripts) -> None:
             reason = Reason(kind, by, draw.choice([1, 12]))
             found = said(alone, "reasonsText", [vars(reason)], tables())
             assert found == sentence_of([reason])
+    assert sentence_of([Reason("lines", 14)]) == NO_REASON != sentence_of([Reason("lines", 15)])
     both = [Reason("turning_back", 1), Reason("shorter", 1000, 3)]
     for reasons in (both[:0], both):
         found = said(alone, "reasonsText", [vars(one) for one in reasons], tables())

@@ -11,11 +11,12 @@ Kind = Literal[
 
 class Text(NamedTuple):
     """What is said of a reason of a kind: `{at}` stands for its point or leg, `{by}` for by how much, in another unit than the program's:
-    `times` by `per` of it, rounded."""
+    `times` by `per` of it, rounded. It is said from so much on as `least`."""
 
     text: str
     times: int = 1
     per: int = 1
+    least: int = 1
 
 
 TEXTS: Mapping[Kind, Text] = {
@@ -26,10 +27,11 @@ TEXTS: Mapping[Kind, Text] = {
     "direction": Text("the direction at point {at} differs by about {by} degrees", 45, 4),
     "end": Text("point {at} lies {by} m from the proper end of its line", per=10),
     "behind": Text("another place costs {by} points less", per=30),
-    "lines": Text("lines of which any may be missing: {by}"),
+    # (by most files some four lines are enough for this reason, so most places have it)
+    "lines": Text("lines of which any may be missing: {by}", least=15),
 }
 NO_REASON = "points, directions and lengths are nearly as the reference says"
-"""Where no difference alone halves a probability."""
+"""Where no difference is said."""
 
 
 @dataclass(frozen=True)
@@ -49,10 +51,13 @@ class Reason:
     """The number of the point or leg, from 1."""
 
     def __str__(self) -> str:
-        text, times, per = TEXTS[self.kind]
-        return text.format(at=self.at, by=(2 * self.by * times + per) // (2 * per))
+        said = TEXTS[self.kind]
+        by = (2 * self.by * said.times + said.per) // (2 * said.per)
+        return said.text.format(at=self.at, by=by)
 
 
 def sentence_of(reasons: Sequence[Reason] | None) -> str | None:
     """The reasons of a place as a sentence; None where the program says none."""
-    return None if reasons is None else "; ".join(map(str, reasons)) or NO_REASON
+    if reasons is None:
+        return None
+    return "; ".join(str(one) for one in reasons if one.by >= TEXTS[one.kind].least) or NO_REASON

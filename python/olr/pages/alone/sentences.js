@@ -82,8 +82,9 @@ function shareOf(millionths) {
 // Why a place is no more probable; null where nothing is said.
 function reasonsText(reasons, { reasons: { texts, none } }) {
   if ((reasons ?? null) === null) return null;
-  const said = reasons.map(({ kind, at, by }) => {
-    const [text, times, per] = texts[kind];
+  const said = reasons.flatMap(({ kind, at, by }) => {
+    const [text, times, per, least] = texts[kind];
+    if (by < least) return [];
     return text.replace("{at}", at).replace("{by}", Math.floor((2 * by * times + per) / (2 * per)));
   });
   return said.join("; ") || none;
