@@ -8,6 +8,7 @@ from pathlib import Path
 
 from browser import Browser
 from conftest import TOP
+from forked import template
 from olr.asking.program import find_program
 from page_of_server import Page
 from servers import serving
@@ -32,4 +33,6 @@ def draw(picture: Path) -> None:
 
 
 if __name__ == "__main__":
+    template.start()
     draw(PICTURE)
+    template.end()
