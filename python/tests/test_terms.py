@@ -176,7 +176,10 @@ def test_the_program_counts_the_same(program: Program, tmp_path: Path) -> None:
     rows = (TOP / "examples/messages.tsv").read_text().splitlines()[:4]
     stub, turned = at_a_stub(tmp_path)
     sure, found = olr.Confidence.default(), []
-    for folder, texts in ((TOP / "examples", [row.split("\t")[1] for row in rows]), (stub, [turned])):
+    for folder, texts in (
+        (TOP / "examples", [row.split("\t")[1] for row in rows]),
+        (stub, [turned]),
+    ):
         with olr.Map(folder, program=program.path, confidence=sure) as town:
             found += [
                 town.places(text, within=14_620, most=100, order="likely", detail=True)
